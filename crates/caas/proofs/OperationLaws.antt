@@ -1,0 +1,240 @@
+-- What Split's verdict means (A3), that an answer tells its verdict and nothing else, and what the masses of an accepted call are
+-- (B2 to B5 of the operation). Assumes nothing.
+use mathlib.Core.Path.{_≡_, refl, sym, _∙_, ap, ap₂, subst}
+use mathlib.Core.Logic.{_↔_}
+use mathlib.Core.Bool.{Bool, true, false, _&&_}
+use mathlib.Core.List.{List, [], _∷_}
+use Prim.Native.Nat.{ℕ, zero, suc, _+_, _≤_, _<_}
+use native.Mathlib.Omega.{arith}
+use lib.Dec.{eqb}
+use lib.IntN.{ℤ, pos, natAbs, _-ℤ_}
+use lib.Signed.{leZ, _≤ℤ_}
+use lib.ListN.{length}
+use Rattle.numbers.specs.declared.Checked.{Checked}
+use Rattle.numbers.specs.declared.Checked.the-variants.{Pass, Fail}
+use Rattle.numbers.specs.Sums.{ℕ-adds, ℤ-adds, sumTo}
+use Rattle.numbers.specs.Lists.{atℤ, listTo}
+use Rattle.numbers.specs.Signed.{over, under}
+use Rattle.numbers.specs.Checks.{both, first, checkCount, Decides, rule, ruleAt, inOrder, Holds, Broken, maxTotal}
+use Rattle.numbers.proofs.TestLaws.{and-means, eq-means}
+use Rattle.numbers.proofs.SumLaws.{sumTo-ext, sumTo-none, sumTo-pos, sumTo-over}
+use Rattle.numbers.proofs.ListLaws.{length-listTo, getD-listTo}
+use Rattle.numbers.proofs.SignedLaws.{signed, le-parts, from-zero, over-whole, from-zero-whole, leZ-means}
+use Rattle.numbers.proofs.CheckLaws.{no-pass, both-first, both-second, both-assoc, both-pass, decides-unless, decides-from, decides-none, decides-then, every-means, count-decides}
+use Rattle.caas.specs.declared.SplitAnswer.{SplitAnswer}
+use Rattle.caas.specs.declared.SplitAnswer.the-variants.{Done, Refused}
+use Rattle.caas.specs.Group.{Group, Splits, Divides, distance, sumIn}
+use Rattle.caas.specs.Split.{result, Proportional}
+use Rattle.caas.specs.Operation.{SplitCall, items, sumℤ, checkLengths, checkOrder, checkHighs, checkWeights, checkReach, shapeChecks, valueChecks, splitVerdict, Lengths, splitRules, SplitFits, itemGroup, splitMasses, verdictOf, massesBy, SplitContract, Divided, distanceOf, SplitFacts}
+use Rattle.caas.proofs.SplitLaws.{result-divides, result-nearest, result-proportional}
+
+-- ---- each check, and the verdict
+
+lengths-test : (n l h w m : ℕ) → (eqb l n && (eqb h n && (eqb w n && eqb m n)) ≡ true) ↔ ((l ≡ n) × ((h ≡ n) × ((w ≡ n) × (m ≡ n))))
+lengths-test n l h w m = and-means (eq-means l n) (and-means (eq-means h n) (and-means (eq-means w n) (eq-means m n)))
+
+-- what 1 and 3 leave to the checks after them
+pub shape-passed : (n l h w m : ℕ) → shapeChecks n l h w m ≡ Pass → (n ≤ 512) × ((l ≡ n) × ((h ≡ n) × ((w ≡ n) × (m ≡ n))))
+unfolding shapeChecks checkLengths
+shape-passed n l h w m e = (
+  count-decides n .passes .0 (both-first (checkCount n) _ e) .1,
+  decides-unless _ 3 (lengths-test n l h w m) .passes .0 (both-first _ Pass (both-second (checkCount n) _ e)),
+)
+
+pub order-decides : (n : ℕ) (lows highs : List ℤ) → Decides (checkOrder n lows highs) (ruleAt 5 n (λ u. (pos 0 ≤ℤ atℤ lows u) × (atℤ lows u ≤ℤ atℤ highs u)))
+unfolding checkOrder
+order-decides n lows highs = decides-from _ _ (λ u. and-means (leZ-means (pos 0) (atℤ lows u)) (leZ-means (atℤ lows u) (atℤ highs u))) 5 n
+
+pub highs-decides : (n : ℕ) (highs : List ℤ) → Decides (checkHighs n highs) (rule 6 (sumℤ n highs ≤ℤ pos maxTotal))
+unfolding checkHighs
+highs-decides n highs = decides-unless _ 6 (leZ-means (sumℤ n highs) (pos maxTotal))
+
+pub weights-decides : (n : ℕ) (weights : List ℤ) → Decides (checkWeights n weights) (rule 7 (((u : ℕ) → u < n → pos 0 ≤ℤ atℤ weights u) × (sumℤ n weights ≤ℤ pos maxTotal)))
+unfolding checkWeights
+weights-decides n weights =
+    decides-unless _ 7
+    (and-means (every-means _ (λ u. pos 0 ≤ℤ atℤ weights u) (λ u. leZ-means (pos 0) (atℤ weights u)) n) (leZ-means (sumℤ n weights) (pos maxTotal)))
+
+pub reach-decides : (n : ℕ) (lows highs : List ℤ) (total : ℤ) → Decides (checkReach n lows highs total) (rule 8 ((sumℤ n lows ≤ℤ total) × (total ≤ℤ sumℤ n highs)))
+unfolding checkReach
+reach-decides n lows highs total = decides-unless _ 8 (and-means (leZ-means (sumℤ n lows) total) (leZ-means total (sumℤ n highs)))
+
+module _ (c : SplitCall) where
+  abbrev n : ℕ
+  n = items c
+
+  lengths-decides : Decides (checkLengths n (length (c .lows)) (length (c .highs)) (length (c .weights)) (length (c .masses))) (rule 3 (Lengths c))
+  unfolding checkLengths
+  lengths-decides =
+      let t = lengths-test n (length (c .lows)) (length (c .highs)) (length (c .weights)) (length (c .masses)) in
+      decides-unless _ 3 (λ e. to (t .0 e), λ l. t .1 (l .lows, (l .highs, (l .weights, l .masses))))
+    where
+      to : (length (c .lows) ≡ n) × ((length (c .highs) ≡ n) × ((length (c .weights) ≡ n) × (length (c .masses) ≡ n))) → Lengths c
+      to h = record { lows = h .0; highs = h .1 .0; weights = h .1 .1 .0; masses = h .1 .1 .1 }
+
+  -- the verdict is the chain of the six checks
+  abbrev chain : Checked
+  chain =
+      first
+      (checkCount n
+      ∷ checkLengths n (length (c .lows)) (length (c .highs)) (length (c .weights)) (length (c .masses))
+      ∷ checkOrder n (c .lows) (c .highs)
+      ∷ checkHighs n (c .highs)
+      ∷ checkWeights n (c .weights)
+      ∷ checkReach n (c .lows) (c .highs) (c .total)
+      ∷ [])
+
+  verdict-chain : splitVerdict c ≡ chain
+  unfolding splitVerdict shapeChecks valueChecks
+  verdict-chain =
+      ap₂ both (ap (both (checkCount n)) (both-pass (checkLengths n (length (c .lows)) (length (c .highs)) (length (c .weights)) (length (c .masses))))) (both-pass _)
+      ∙ both-assoc (checkCount n) (checkLengths n (length (c .lows)) (length (c .highs)) (length (c .weights)) (length (c .masses))) _
+
+  -- accepted if every rule holds; refused with a number at a place if those before it hold and this one is broken there
+  pub verdict-decides : Decides (splitVerdict c) (inOrder (splitRules c))
+  unfolding splitRules
+  verdict-decides =
+      subst (λ v. Decides v (inOrder (splitRules c))) (sym verdict-chain)
+      (decides-then _ _ _ _ (count-decides n)
+      (decides-then _ _ _ _ lengths-decides
+      (decides-then _ _ _ _ (order-decides n (c .lows) (c .highs))
+      (decides-then _ _ _ _ (highs-decides n (c .highs))
+      (decides-then _ _ _ _ (weights-decides n (c .weights))
+      (decides-then _ _ _ _ (reach-decides n (c .lows) (c .highs) (c .total)) decides-none))))))
+
+  pub refused : (number place : ℕ) → (splitVerdict c ≡ Fail number place) ↔ Broken (splitRules c) number place
+  refused = verdict-decides .fails
+
+  fits-holds : Holds (splitRules c) ↔ SplitFits c
+  unfolding splitRules Holds
+  fits-holds = (
+    λ h.
+        record {
+          some = h .0 .0;
+          few = h .0 .1;
+          lengths = h .1 .0;
+          nonneg = λ u l. h .1 .1 .0 u l .0;
+          order = λ u l. h .1 .1 .0 u l .1;
+          highs = h .1 .1 .1 .0;
+          weights = h .1 .1 .1 .1 .0 .0;
+          weighs = h .1 .1 .1 .1 .0 .1;
+          least = h .1 .1 .1 .1 .1 .0 .0;
+          most = h .1 .1 .1 .1 .1 .0 .1;
+        },
+    λ f. ((f .some, f .few), (f .lengths, ((λ u l. (f .nonneg u l, f .order u l)), (f .highs, ((f .weights, f .weighs), ((f .least, f .most), tt)))))),
+  )
+
+  pub accepted : (splitVerdict c ≡ Pass) ↔ SplitFits c
+  accepted = (λ e. fits-holds .0 (verdict-decides .passes .0 e), λ f. verdict-decides .passes .1 (fits-holds .1 f))
+
+-- ---- the answer
+
+-- an answer is told by its verdict
+pub verdict-injective : (a b : SplitAnswer) → verdictOf a ≡ verdictOf b → a ≡ b
+unfolding verdictOf
+verdict-injective Done Done e = refl
+verdict-injective Done (Refused n p) e = absurd (no-pass refl e)
+verdict-injective (Refused n p) Done e = absurd (no-pass e refl)
+verdict-injective (Refused n p) (Refused m q) e = cc
+
+-- ---- an accepted call
+
+module _ (c : SplitCall) (fits : SplitFits c) where
+  abbrev pub G : Group
+  G = itemGroup c
+
+  abbrev pub M : ℕ
+  M = over (c .total)
+
+  abbrev k : ℕ
+  k = items c
+
+  high-nonneg : (u : ℕ) → u < k → under (atℤ (c .highs) u) ≡ 0
+  high-nonneg u l = omega (arith, le-parts (fits .nonneg u l), le-parts (fits .order u l))
+
+  pub lows-sum : sumℤ k (c .lows) ≡ pos (sumIn ℕ-adds G (G .low))
+  lows-sum = sumTo-over k (atℤ (c .lows)) (λ u l. from-zero (fits .nonneg u l))
+
+  pub highs-sum : sumℤ k (c .highs) ≡ pos (sumIn ℕ-adds G (G .high))
+  highs-sum = sumTo-over k (atℤ (c .highs)) high-nonneg
+
+  pub weights-sum : sumℤ k (c .weights) ≡ pos (sumIn ℕ-adds G (G .weight))
+  weights-sum = sumTo-over k (atℤ (c .weights)) (λ u l. from-zero (fits .weights u l))
+
+  pub total-whole : c .total ≡ pos (over (c .total))
+  total-whole = over-whole (c .total) (let h : pos (sumIn ℕ-adds G (G .low)) ≤ℤ c .total = subst (λ z. z ≤ℤ c .total) lows-sum (fits .least) in omega (arith, le-parts h))
+
+  -- M can be split among the items
+  pub items-splits : Splits G M
+  items-splits =
+      record {
+        order = λ u l e. omega (arith, le-parts (fits .order u l));
+        least = let h : pos (sumIn ℕ-adds G (G .low)) ≤ℤ c .total = subst (λ z. z ≤ℤ c .total) lows-sum (fits .least) in omega (arith, le-parts h);
+        most = let h : c .total ≤ℤ pos (sumIn ℕ-adds G (G .high)) = subst (λ z. c .total ≤ℤ z) highs-sum (fits .most) in omega (arith, le-parts h);
+      }
+
+  pub highs-small : sumIn ℕ-adds G (G .high) ≤ maxTotal
+  highs-small = let h : pos (sumIn ℕ-adds G (G .high)) ≤ℤ pos maxTotal = subst (λ z. z ≤ℤ pos maxTotal) highs-sum (fits .highs) in omega (arith, le-parts h)
+
+  pub weights-small : sumIn ℕ-adds G (G .weight) ≤ maxTotal
+  weights-small = let h : pos (sumIn ℕ-adds G (G .weight)) ≤ℤ pos maxTotal = subst (λ z. z ≤ℤ pos maxTotal) weights-sum (fits .weighs) in omega (arith, le-parts h)
+
+  mass-at : (u : ℕ) → u < k → atℤ (splitMasses c) u ≡ pos (result G M u)
+  unfolding splitMasses
+  mass-at u l = getD-listTo k (λ w. pos (result G M w)) u (pos 0) l
+
+  mass-within : (u : ℕ) → u < k → (atℤ (c .lows) u ≤ℤ atℤ (splitMasses c) u) × (atℤ (splitMasses c) u ≤ℤ atℤ (c .highs) u)
+  mass-within u l =
+      let r = result-divides G M items-splits .within u l refl in
+      rw (mass-at u l) (
+        subst (λ z. z ≤ℤ pos (result G M u)) (sym (from-zero-whole (atℤ (c .lows) u) (fits .nonneg u l))) (r .0),
+        subst (λ z. pos (result G M u) ≤ℤ z) (sym (over-whole (atℤ (c .highs) u) (high-nonneg u l))) (r .1),
+      )
+
+  masses-sum : sumTo ℤ-adds k (atℤ (splitMasses c)) ≡ c .total
+  masses-sum = sumTo-ext ℤ-adds k _ (λ u. pos (result G M u)) mass-at ∙ result-divides G M items-splits .sum ∙ sym total-whole
+
+  divided-divides : (y : ℕ → ℤ) → Divided c y → Divides G M y
+  divided-divides y d =
+      record {
+        within = λ u l e. (subst (λ z. z ≤ℤ y u) (from-zero-whole (atℤ (c .lows) u) (fits .nonneg u l)) (d .within u l .0), subst (λ z. y u ≤ℤ z) (over-whole (atℤ (c .highs) u) (high-nonneg u l)) (d .within u l .1));
+        sum = d .sum ∙ total-whole;
+      }
+
+  distance-is : (y : ℕ → ℤ) → distanceOf c y ≡ distance G y
+  unfolding distanceOf distance
+  distance-is y = refl
+
+  distance-masses : distanceOf c (atℤ (splitMasses c)) ≡ distance G (λ u. pos (result G M u))
+  unfolding distanceOf distance
+  distance-masses = sumTo-ext ℕ-adds k _ _ (λ u l. ap (λ z. natAbs (z -ℤ atℤ (c .targets) u)) (mass-at u l))
+
+  weightless : ((u : ℕ) → u < k → atℤ (c .weights) u ≡ pos 0) → sumIn ℕ-adds G (G .weight) ≡ 0
+  weightless h = sumTo-none ℕ-adds k _ (λ u l. ap over (h u l))
+
+  pub fits-facts : SplitFacts c (splitMasses c)
+  fits-facts =
+      record {
+        count = unfold splitMasses in (length-listTo k (λ w. pos (result G M w)));
+        divides = record { within = mass-within; sum = masses-sum };
+        nearest = λ y d. rw (distance-masses, distance-is y) (result-nearest G M items-splits y (divided-divides y d));
+        proportional = λ h u l. subst (λ z. Proportional G M z u) (sym (mass-at u l)) (result-proportional G M items-splits (weightless h) u l refl);
+      }
+
+-- ---- from the contract alone
+
+-- a call answered Done fits, and its masses have every fact
+pub done-fits : (c : SplitCall) (masses : List ℤ) → SplitContract c Done masses → SplitFits c
+unfolding verdictOf
+done-fits c masses p = accepted c .0 (sym (p .answers))
+
+pub done-facts : (c : SplitCall) (masses : List ℤ) → SplitContract c Done masses → SplitFacts c masses
+unfolding verdictOf
+done-facts c masses p =
+    subst (SplitFacts c) (sym (p .writes ∙ ap (λ v. massesBy v (splitMasses c) (c .masses)) (sym (p .answers)))) (fits-facts c (done-fits c masses p))
+
+-- a refused call left the masses as they were, and broke the rule of its number
+pub refused-keeps : (c : SplitCall) (number place : ℕ) (masses : List ℤ) → SplitContract c (Refused number place) masses → (masses ≡ c .masses) × Broken (splitRules c) number place
+unfolding verdictOf
+refused-keeps c number place masses p =
+    (p .writes ∙ ap (λ v. massesBy v (splitMasses c) (c .masses)) (sym (p .answers)), refused c number place .0 (sym (p .answers)))

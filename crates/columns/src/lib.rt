@@ -1,0 +1,2 @@
+// The lent scratch as columns of numbers, chains through its rows, and what each walk along a chain leaves: definitions (specs/) and
+// laws (proofs/) alone; the code is in the crate `walks`. Relies on `caas` and `numbers`.

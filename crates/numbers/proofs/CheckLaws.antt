@@ -1,0 +1,218 @@
+-- Laws of checks: how a proof goes along a chain, how a loop looks for the first place that fails, and what each verdict means. Assumes nothing.
+use mathlib.Core.Path.{_≡_, refl, sym, _∙_, ap, subst}
+use mathlib.Core.Logic.{_⊎_, inl, inr, ⊎-elim, _↔_}
+use mathlib.Core.Bool.{Bool, true, false, _&&_}
+use mathlib.Core.List.{List, [], _∷_}
+use Prim.Native.Nat.{ℕ, zero, suc, _+_, _-_, _≤_, _<_}
+use native.Mathlib.Omega.{arith}
+use native.Mathlib.Numerals.{add-one}
+use native.Mathlib.Nat.{add-zero}
+use native.Mathlib.Decide.{ℕ-discrete}
+use lib.Dec.{ltb, leb, eqb}
+use Rattle.numbers.specs.declared.Checked.{Checked}
+use Rattle.numbers.specs.declared.Checked.the-variants.{Pass, Fail}
+use Rattle.numbers.specs.Checks.{unless, both, first, firstFrom, everyFrom, Rule, Decides, rule, ruleAt, Holds, Broken, inOrder, checkCount, checkLength}
+use Rattle.numbers.proofs.TestLaws.{Tested, holds, fails, tested, not-so, clash, and-means, lt-means, le-means, eq-means, and-first, and-second, and-intro}
+
+-- ---- along a chain: the first passes and the rest decides; the first fails and that is it; the last decides
+
+pub on : {u v w : Checked} → v ≡ Pass → u ≡ w → u ≡ both v w
+on {w = w} p q = q ∙ ap (λ x. both x w) (sym p)
+
+pub stop : {v : Checked} (w : Checked) {number place : ℕ} → v ≡ Fail number place → Fail number place ≡ both v w
+stop w p = ap (λ x. both x w) (sym p)
+
+pub last : {u : Checked} (v : Checked) → u ≡ v → u ≡ both v Pass
+last Pass e = e
+last (Fail n p) e = e
+
+pub both-assoc : (u v w : Checked) → both (both u v) w ≡ both u (both v w)
+both-assoc Pass v w = refl
+both-assoc (Fail n p) v w = refl
+
+pub both-pass : (v : Checked) → both v Pass ≡ v
+both-pass Pass = refl
+both-pass (Fail n p) = refl
+
+-- two tests with one number and place are one test of both
+pub unless-and : (a b : Bool) (number place : ℕ) → both (unless a number place) (unless b number place) ≡ unless (a && b) number place
+unless-and true b number place = refl
+unless-and false b number place = refl
+
+-- what a chain that passed says of its parts
+pub both-first : (v w : Checked) → both v w ≡ Pass → v ≡ Pass
+both-first Pass w e = refl
+both-first (Fail n p) w e = e
+
+pub both-second : (v w : Checked) → both v w ≡ Pass → w ≡ Pass
+both-second Pass w e = e
+both-second (Fail n p) w e = let z : _≡_ {A = ℕ} 0 1 = cc in absurd (omega arith)
+
+-- a verdict is one thing
+pub no-pass : {v : Checked} {number place : ℕ} → v ≡ Pass → v ≡ Fail number place → ⊥
+no-pass p f = let z : _≡_ {A = ℕ} 0 1 = cc in omega arith
+
+-- ---- a loop that looks for the first place that fails
+
+one-less : (i k : ℕ) → i < k → k - i ≡ suc (k - (i + 1))
+one-less i k h = omega arith
+
+pub first-on : (good : ℕ → Bool) (number i k : ℕ) → i < k → good i ≡ true → firstFrom good number i (k - i) ≡ firstFrom good number (i + 1) (k - (i + 1))
+unfolding firstFrom
+first-on good number i k h e = rw (one-less i k h, e, add-one) refl
+
+pub first-here : (good : ℕ → Bool) (number i k : ℕ) → i < k → good i ≡ false → firstFrom good number i (k - i) ≡ Fail number i
+unfolding firstFrom
+first-here good number i k h e = rw (one-less i k h, e) refl
+
+pub first-none : (good : ℕ → Bool) (number i k : ℕ) → k ≤ i → firstFrom good number i (k - i) ≡ Pass
+unfolding firstFrom
+first-none good number i k h = let none : k - i ≡ 0 = omega arith in rw none refl
+
+pub every-on : (good : ℕ → Bool) (i k : ℕ) → i < k → good i ≡ true → everyFrom good i (k - i) ≡ everyFrom good (i + 1) (k - (i + 1))
+unfolding everyFrom
+every-on good i k h e = rw (one-less i k h, e, add-one) refl
+
+pub every-here : (good : ℕ → Bool) (i k : ℕ) → i < k → good i ≡ false → everyFrom good i (k - i) ≡ false
+unfolding everyFrom
+every-here good i k h e = rw (one-less i k h, e) refl
+
+pub every-none : (good : ℕ → Bool) (i k : ℕ) → k ≤ i → everyFrom good i (k - i) ≡ true
+unfolding everyFrom
+every-none good i k h = let none : k - i ≡ 0 = omega arith in rw none refl
+
+-- ---- what verdicts mean
+
+-- one test
+pub decides-unless : (b : Bool) (number : ℕ) {P : Type 0} → (b ≡ true) ↔ P → Decides (unless b number 0) (rule number P)
+decides-unless true number e =
+    record {
+      passes = (λ q. e .0 refl, λ q. refl);
+      fails = λ n p. (λ q. absurd (no-pass refl q), λ q. absurd (q .1 (e .0 refl)));
+    }
+decides-unless false number e =
+    record {
+      passes = (λ q. absurd (no-pass q refl), λ q. absurd (clash (e .1 q) refl));
+      fails = λ n p. (λ q. ((cc, cc), λ h. absurd (clash (e .1 h) refl)), λ q. cc (q .0 .0, q .0 .1));
+    }
+
+-- rules in order
+pub decides-none : Decides Pass (inOrder [])
+unfolding Holds Broken
+decides-none = record { passes = (λ q. tt, λ q. refl); fails = λ n p. (λ q. no-pass refl q, λ q. absurd q) }
+
+pub decides-then : (v w : Checked) (r : Rule) (rs : List Rule) → Decides v r → Decides w (inOrder rs) → Decides (both v w) (inOrder (r ∷ rs))
+unfolding Holds Broken
+decides-then Pass w r rs d e =
+    record {
+      passes = (λ q. (d .passes .0 refl, e .passes .0 q), λ h. e .passes .1 (h .1));
+      fails =
+          λ n p. (
+            λ q. inr (d .passes .0 refl, e .fails n p .0 q),
+            λ h. ⊎-elim (λ f. absurd (no-pass refl (d .fails n p .1 f))) (λ g. e .fails n p .1 (g .1)) h,
+          );
+    }
+decides-then (Fail a b) w r rs d e =
+    record {
+      passes = (λ q. absurd (no-pass q refl), λ h. absurd (no-pass (d .passes .1 (h .0)) refl));
+      fails =
+          λ n p. (
+            λ q. inl (d .fails n p .0 q),
+            λ h. ⊎-elim (λ f. d .fails n p .1 f) (λ g. absurd (no-pass (d .passes .1 (g .0)) refl)) h,
+          );
+    }
+
+-- every place below k passes its test
+module _ (good : ℕ → Bool) (P : ℕ → Type 0) (e : (i : ℕ) → (good i ≡ true) ↔ P i) where
+  abbrev From : ℕ → ℕ → Type 0
+  From i k = (j : ℕ) → i ≤ j → j < i + k → P j
+
+  from-next : (i k : ℕ) → P i → From (suc i) k → From i (suc k)
+  from-next i k h r j a b = go (ℕ-discrete i j)
+    where
+      go : Dec (i ≡ j) → P j
+      go (yes s) = subst P s h
+      go (no s) = r j (omega arith) (omega arith)
+
+  every-from : (i k : ℕ) → (everyFrom good i k ≡ true) ↔ From i k
+  unfolding everyFrom
+  every-from i zero = (λ q j a b. absurd (omega arith), λ h. refl)
+  every-from i (suc k) = (
+    λ q. from-next i k (e i .0 (and-first (good i) _ q)) (every-from (suc i) k .0 (and-second (good i) _ q)),
+    λ h. and-intro (e i .1 (h i (omega arith) (omega arith))) (every-from (suc i) k .1 (λ j a b. h j (omega arith) (omega arith))),
+  )
+
+  pub every-means : (k : ℕ) → (everyFrom good 0 k ≡ true) ↔ ((i : ℕ) → i < k → P i)
+  every-means k = (λ q i l. every-from 0 k .0 q i (omega arith) (omega arith), λ h. every-from 0 k .1 (λ j a b. h j (omega arith)))
+
+  -- the first place that fails its test
+  module _ (number : ℕ) where
+    abbrev fromRule : ℕ → ℕ → Rule
+    fromRule i k =
+        record {
+          fact = From i k;
+          fault = λ n p. ((n ≡ number) × ((i ≤ p) × (p < i + k))) × ((P p → ⊥) × ((j : ℕ) → i ≤ j → j < p → P j));
+        }
+
+    from-step : (i k : ℕ) → Decides (firstFrom good number (suc i) k) (fromRule (suc i) k) → Tested (good i) → Decides (both (unless (good i) number i) (firstFrom good number (suc i) k)) (fromRule i (suc k))
+    from-step i k d (holds s) =
+        rw s
+        (record {
+          passes = (λ q. from-next i k (e i .0 s) (d .passes .0 q), λ h. d .passes .1 (λ j a b. h j (omega arith) (omega arith)));
+          fails =
+              λ n p. (
+                λ q. let f = d .fails n p .0 q in ((f .0 .0, (omega (arith, f .0 .1), omega (arith, f .0 .1))), (f .1 .0, λ j a b. from-next i (p - suc i) (e i .0 s) (λ x y z. f .1 .1 x y (omega arith)) j a (omega (arith, f .0 .1)))),
+                λ h. d .fails n p .1 ((h .0 .0, (not-first (h .0 .1 .0) (h .1 .0), omega (arith, h .0 .1))), (h .1 .0, λ j a b. h .1 .1 j (omega arith) b)),
+              );
+        })
+      where
+        not-first : {p : ℕ} → i ≤ p → (P p → ⊥) → suc i ≤ p
+        not-first {p} a b = go (ℕ-discrete i p)
+          where
+            go : Dec (i ≡ p) → suc i ≤ p
+            go (yes t) = absurd (b (subst P t (e i .0 s)))
+            go (no t) = omega arith
+    from-step i k d (fails s) =
+        rw s
+        (record {
+          passes = (λ q. absurd (no-pass q refl), λ h. absurd (clash (e i .1 (h i (omega arith) (omega arith))) s));
+          fails =
+              λ n p. (
+                λ q. let a : number ≡ n = cc in let b : i ≡ p = cc in ((sym a, (omega arith, omega arith)), (subst (λ x. P x → ⊥) b (λ h. clash (e i .1 h) s), λ j x y. absurd (omega arith))),
+                λ h. let b : p ≡ i = here h in cc (h .0 .0, b),
+              );
+        })
+      where
+        here : {n p : ℕ} → ((n ≡ number) × ((i ≤ p) × (p < i + suc k))) × ((P p → ⊥) × ((j : ℕ) → i ≤ j → j < p → P j)) → p ≡ i
+        here {n} {p} h = go (ℕ-discrete p i)
+          where
+            go : Dec (p ≡ i) → p ≡ i
+            go (yes t) = t
+            go (no t) = absurd (clash (e i .1 (h .1 .1 i (omega arith) (omega (arith, h .0 .1)))) s)
+
+    from-decides : (i k : ℕ) → Decides (firstFrom good number i k) (fromRule i k)
+    unfolding firstFrom
+    from-decides i zero =
+        record {
+          passes = (λ q j a b. absurd (omega arith), λ h. refl);
+          fails = λ n p. (λ q. absurd (no-pass refl q), λ h. absurd (omega (arith, h .0 .1)));
+        }
+    from-decides i (suc k) = from-step i k (from-decides (suc i) k) (tested (good i))
+
+    pub decides-from : (k : ℕ) → Decides (firstFrom good number 0 k) (ruleAt number k P)
+    decides-from k =
+        let d = from-decides 0 k in
+        record {
+          passes = (λ q i l. d .passes .0 q i (omega arith) (omega arith), λ h. d .passes .1 (λ j a b. h j (omega arith)));
+          fails =
+              λ n p. (
+                λ q. let f = d .fails n p .0 q in ((f .0 .0, omega (arith, f .0 .1)), (f .1 .0, λ i l. f .1 .1 i (omega arith) l)),
+                λ h. d .fails n p .1 ((h .0 .0, (omega arith, omega (arith, h .0 .1))), (h .1 .0, λ j a b. h .1 .1 j b)),
+              );
+        }
+
+-- ---- checks that several operations share
+
+pub count-decides : (n : ℕ) → Decides (checkCount n) (rule 1 ((0 < n) × (n ≤ 512)))
+unfolding checkCount
+count-decides n = decides-unless _ 1 (and-means (lt-means 0 n) (le-means n 512))

@@ -1,0 +1,7 @@
+-- The laws of the vocabulary, by file; each stands over the definitions of specs/ alone.
+pub mod TestLaws
+pub mod SumLaws
+pub mod ListLaws
+pub mod SignedLaws
+pub mod QuotaLaws
+pub mod CheckLaws

@@ -1,0 +1,100 @@
+-- Laws of sums, for every kind of number at once; then those of order, in ℕ. Assumes nothing.
+use mathlib.Core.Path.{_≡_, refl, sym, _∙_, ap, ap₂}
+use mathlib.Core.Logic.{_≢_}
+use mathlib.Core.Bool.{Bool, true, false}
+use Prim.Native.Nat.{ℕ, zero, suc, _+_, _-_, _≤_, _<_}
+use native.Mathlib.Omega.{arith}
+use lib.IntN.{ℤ, pos, _+ℤ_}
+use Rattle.numbers.specs.Sums.{Adds, ℕ-adds, ℤ-adds, sumTo, pick}
+use Rattle.numbers.specs.Signed.{over, under, gap}
+use Rattle.numbers.proofs.SignedLaws.{add-parts, over-whole}
+
+module _ (A : Adds) where
+  open Adds A using (plus, none, assoc, comm, idl)
+
+  pub idr : (a : A .Num) → plus a none ≡ a
+  idr a = comm a none ∙ idl a
+
+  swap4 : (a b c d : A .Num) → plus (plus a b) (plus c d) ≡ plus (plus a c) (plus b d)
+  swap4 a b c d =
+      assoc a b (plus c d)
+      ∙ ap (plus a) (sym (assoc b c d) ∙ ap (λ x. plus x d) (comm b c) ∙ assoc c b d)
+      ∙ sym (assoc a c (plus b d))
+
+  -- one summand more
+  pub sumTo-next : (k : ℕ) (f : ℕ → A .Num) → sumTo A (suc k) f ≡ plus (sumTo A k f) (f k)
+  unfolding sumTo
+  sumTo-next k f = refl
+
+  pub sumTo-ext : (k : ℕ) (f g : ℕ → A .Num) → ((i : ℕ) → i < k → f i ≡ g i) → sumTo A k f ≡ sumTo A k g
+  unfolding sumTo
+  sumTo-ext zero f g h = refl
+  sumTo-ext (suc k) f g h = ap₂ plus (sumTo-ext k f g (λ i l. h i (omega arith))) (h k (omega arith))
+
+  pub sumTo-none : (k : ℕ) (f : ℕ → A .Num) → ((i : ℕ) → i < k → f i ≡ none) → sumTo A k f ≡ none
+  unfolding sumTo
+  sumTo-none zero f h = refl
+  sumTo-none (suc k) f h = ap₂ plus (sumTo-none k f (λ i l. h i (omega arith))) (h k (omega arith)) ∙ idl none
+
+  pub sumTo-plus : (k : ℕ) (f g : ℕ → A .Num) → sumTo A k (λ i. plus (f i) (g i)) ≡ plus (sumTo A k f) (sumTo A k g)
+  unfolding sumTo
+  sumTo-plus zero f g = sym (idl none)
+  sumTo-plus (suc k) f g = ap (λ x. plus x (plus (f k) (g k))) (sumTo-plus k f g) ∙ swap4 (sumTo A k f) (sumTo A k g) (f k) (g k)
+
+  -- what is picked counts only if the test holds
+  pub pick-ext : (b : Bool) (x y : A .Num) → (b ≡ true → x ≡ y) → pick A b x ≡ pick A b y
+  pick-ext true x y h = h refl
+  pick-ext false x y h = refl
+
+  pub pick-plus : (b : Bool) (x y : A .Num) → pick A b (plus x y) ≡ plus (pick A b x) (pick A b y)
+  pick-plus true x y = refl
+  pick-plus false x y = sym (idl none)
+
+-- ---- order, in ℕ
+
+pub sumTo-le : (k : ℕ) (f g : ℕ → ℕ) → ((i : ℕ) → i < k → f i ≤ g i) → sumTo ℕ-adds k f ≤ sumTo ℕ-adds k g
+unfolding sumTo
+sumTo-le zero f g h = omega arith
+sumTo-le (suc k) f g h = omega (arith, sumTo-le k f g (λ i l. h i (omega arith)), h k (omega arith))
+
+pub pick-le : (b : Bool) (x y : ℕ) → (b ≡ true → x ≤ y) → pick ℕ-adds b x ≤ pick ℕ-adds b y
+pick-le true x y h = h refl
+pick-le false x y h = omega arith
+
+-- more summands make no less
+grows : (f : ℕ → ℕ) (k d : ℕ) → sumTo ℕ-adds k f ≤ sumTo ℕ-adds (d + k) f
+grows f k zero = let e : 0 + k ≡ k = omega arith in rw e (omega arith)
+grows f k (suc d) = let e : suc d + k ≡ suc (d + k) = omega arith in rw (e, sumTo-next ℕ-adds (d + k) f) (omega (arith, grows f k d))
+
+pub sumTo-grows : (f : ℕ → ℕ) (k m : ℕ) → k ≤ m → sumTo ℕ-adds k f ≤ sumTo ℕ-adds m f
+sumTo-grows f k m l = let e : m ≡ (m - k) + k = omega arith in rw e (grows f k (m - k))
+
+-- sums are no further apart than their summands together
+pub gap-sum : (k : ℕ) (f g : ℕ → ℕ) → gap (sumTo ℕ-adds k f) (sumTo ℕ-adds k g) ≤ sumTo ℕ-adds k (λ i. gap (f i) (g i))
+unfolding sumTo
+gap-sum zero f g = omega arith
+gap-sum (suc k) f g = joined (sumTo ℕ-adds k f) (sumTo ℕ-adds k g) (f k) (g k) _ (gap-sum k f g)
+  where
+    joined : (a b x y s : ℕ) → gap a b ≤ s → gap (a + x) (b + y) ≤ s + gap x y
+    joined a b x y s h = omega arith
+
+-- ---- from ℕ to ℤ
+
+pub pick-pos : (b : Bool) (x : ℕ) → pick ℤ-adds b (pos x) ≡ pos (pick ℕ-adds b x)
+pick-pos true x = refl
+pick-pos false x = refl
+
+pub sumTo-pos : (k : ℕ) (f : ℕ → ℕ) → sumTo ℤ-adds k (λ i. pos (f i)) ≡ pos (sumTo ℕ-adds k f)
+unfolding sumTo
+sumTo-pos zero f = refl
+sumTo-pos (suc k) f = ap (λ z. z +ℤ pos (f k)) (sumTo-pos k f)
+
+-- the parts of a sum, and the sums of the parts
+pub sumTo-parts : (k : ℕ) (y : ℕ → ℤ) → over (sumTo ℤ-adds k y) + sumTo ℕ-adds k (λ i. under (y i)) ≡ under (sumTo ℤ-adds k y) + sumTo ℕ-adds k (λ i. over (y i))
+unfolding sumTo
+sumTo-parts zero y = refl
+sumTo-parts (suc k) y = omega (arith, sumTo-parts k y, add-parts (sumTo ℤ-adds k y) (y k))
+
+-- numbers of which none is below 0 add up to the sum of their parts above it
+pub sumTo-over : (k : ℕ) (y : ℕ → ℤ) → ((i : ℕ) → i < k → under (y i) ≡ 0) → sumTo ℤ-adds k y ≡ pos (sumTo ℕ-adds k (λ i. over (y i)))
+sumTo-over k y h = sumTo-ext ℤ-adds k y (λ i. pos (over (y i))) (λ i l. over-whole (y i) (h i l)) ∙ sumTo-pos k (λ i. over (y i))

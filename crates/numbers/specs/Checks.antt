@@ -1,0 +1,85 @@
+-- Checks in their order: each has a number and a place, the first that fails decides, and a rule says what it means. Assumes nothing.
+use mathlib.Core.Path.{_≡_}
+use mathlib.Core.Logic.{_⊎_, _↔_}
+use mathlib.Core.Bool.{Bool, true, false, _&&_}
+use mathlib.Core.List.{List, [], _∷_}
+use Prim.Native.Nat.{ℕ, zero, suc, _≤_, _<_}
+use lib.Dec.{ltb, leb, eqb}
+use Rattle.numbers.specs.declared.Checked.{Checked}
+use Rattle.numbers.specs.declared.Checked.the-variants.{Pass, Fail}
+
+-- ---- verdicts
+
+-- passes if the test holds, else fails with the number and the place
+abbrev pub unless : Bool → ℕ → ℕ → Checked
+unless true number place = Pass
+unless false number place = Fail number place
+
+-- the first of two that fails
+abbrev pub both : Checked → Checked → Checked
+both Pass v = v
+both (Fail number place) v = Fail number place
+
+-- the first of a list that fails: the list is the order of the checks
+abbrev pub first : List Checked → Checked
+first [] = Pass
+first (v ∷ vs) = both v (first vs)
+
+-- of the k places from i on, the first that fails its test
+unfoldable pub firstFrom : (ℕ → Bool) → ℕ → ℕ → ℕ → Checked
+firstFrom good number i zero = Pass
+firstFrom good number i (suc k) = both (unless (good i) number i) (firstFrom good number (suc i) k)
+
+-- each of the k places from i on passes its test
+unfoldable pub everyFrom : (ℕ → Bool) → ℕ → ℕ → Bool
+everyFrom good i zero = true
+everyFrom good i (suc k) = good i && everyFrom good (suc i) k
+
+-- ---- what verdicts mean
+
+-- a check in plain facts: it passes exactly if `fact` holds, and fails with a number at a place exactly if `fault number place` holds
+pub record Rule : Type 1 where
+  pub fact : Type 0
+  pub fault : ℕ → ℕ → Type 0
+
+pub record Decides (v : Checked) (r : Rule) : Type 0 where
+  pub passes : (v ≡ Pass) ↔ r .fact
+  pub fails : (number place : ℕ) → (v ≡ Fail number place) ↔ r .fault number place
+
+-- one fact: broken, it fails with this number at place 0
+abbrev pub rule : ℕ → Type 0 → Rule
+rule number P = record { fact = P; fault = λ n p. ((n ≡ number) × (p ≡ 0)) × (P → ⊥) }
+
+-- a fact of each place below k: broken, it fails with this number at the least place that breaks it
+abbrev pub ruleAt : ℕ → ℕ → (ℕ → Type 0) → Rule
+ruleAt number k P =
+    record {
+      fact = (i : ℕ) → i < k → P i;
+      fault = λ n p. ((n ≡ number) × (p < k)) × ((P p → ⊥) × ((i : ℕ) → i < p → P i));
+    }
+
+-- rules in order: all hold; or those before one hold, and this one is broken
+unfoldable pub Holds : List Rule → Type 0
+Holds [] = Unit
+Holds (r ∷ rs) = r .fact × Holds rs
+
+unfoldable pub Broken : List Rule → ℕ → ℕ → Type 0
+Broken [] number place = ⊥
+Broken (r ∷ rs) number place = r .fault number place ⊎ (r .fact × Broken rs number place)
+
+abbrev pub inOrder : List Rule → Rule
+inOrder rs = record { fact = Holds rs; fault = Broken rs }
+
+-- ---- checks that several operations share
+
+-- 1: the number of items or cells is 1 to 512
+unfoldable pub checkCount : ℕ → Checked
+checkCount n = unless (ltb 0 n && leb n 512) 1 0
+
+-- 3: a list has the length n
+unfoldable pub checkLength : ℕ → ℕ → Checked
+checkLength k n = unless (eqb k n) 3 0
+
+-- the largest sum that 01 allows of highs, safe highs, weights and kept masses
+abbrev pub maxTotal : ℕ
+maxTotal = 2147483647

@@ -1,0 +1,162 @@
+// Leaf functions for the crates above, each with its whole contract: signed numbers are taken to unsigned ones as early as can be.
+ghost use mathlib.Core.Path.{_≡_};
+ghost use Prim.Native.Nat.{_+_, _≤_, _<_, _^_, min, max};
+ghost use lib.IntN.{pos, natAbs, _-ℤ_};
+ghost use lib.Signed.{ltZ, leZ};
+ghost use lib.ListN.{length, set};
+ghost use Rattle.numbers.specs.Sums.{ℕ-adds, sumTo};
+ghost use Rattle.numbers.specs.Lists.{atℤ};
+ghost use Rattle.numbers.specs.Signed.{over};
+ghost use Rattle.numbers.specs.Quota.{quota};
+ghost use Rattle.numbers.specs.Checks.{both, checkCount, checkLength};
+
+// The smaller and the larger of two.
+pub fn smaller(a: u64, b: u64) -> u64
+    ensures { λ r. ⌜ r ≡ min a b ⌝ }
+{
+    if a < b { a } else { b }
+}
+
+pub fn larger(a: u64, b: u64) -> u64
+    ensures { λ r. ⌜ r ≡ max a b ⌝ }
+{
+    if a < b { b } else { a }
+}
+
+// An index read from a list, and an index to be stored in one.
+pub fn index(x: u64) -> usize
+    ensures { λ r. ⌜ r ≡ x ⌝ }
+{
+    x as usize
+}
+
+pub fn stored_index(x: usize) -> u64
+    ensures { λ r. ⌜ r ≡ x ⌝ }
+{
+    x as u64
+}
+
+// What a number has above 0.
+pub fn above(x: i64) -> u64
+    ensures { λ r. ⌜ r ≡ over x ⌝ }
+{
+    if x < 0 { 0 } else { x as u64 }
+}
+
+// An unsigned number as a signed one.
+pub fn signed(x: u64) -> i64
+    requires { ⌜ x < 2 ^ 63 ⌝ }
+    ensures { λ r. ⌜ r ≡ pos x ⌝ }
+{
+    x as i64
+}
+
+// Tests of signed numbers.
+pub fn at_most(a: i64, b: i64) -> bool
+    ensures { λ r. ⌜ r ≡ leZ a b ⌝ }
+{
+    a <= b
+}
+
+pub fn is_negative(x: i64) -> bool
+    ensures { λ r. ⌜ r ≡ ltZ x (pos 0) ⌝ }
+{
+    x < 0
+}
+
+// A signed difference, and its size.
+pub fn difference(a: u64, b: u64) -> i64
+    requires { ⌜ (a < 2 ^ 63) × (b < 2 ^ 63) ⌝ }
+    ensures { λ r. ⌜ r ≡ pos a -ℤ pos b ⌝ }
+{
+    signed(a) - signed(b)
+}
+
+pub fn magnitude(d: i64) -> u64
+    requires { ⌜ natAbs d < 2 ^ 63 ⌝ }
+    ensures { λ r. ⌜ r ≡ natAbs d ⌝ }
+{
+    if d < 0 { (0 - d) as u64 } else { d as u64 }
+}
+
+// The rounded quotient, 0 where there is nothing to divide by. The bounds leave room for any rounding that doubles its operands.
+pub fn quotient(a: u64, b: u64) -> u64
+    requires { ⌜ (a < 2 ^ 62) × (b < 2 ^ 31) ⌝ }
+    ensures { λ r. ⌜ r ≡ quota a b ⌝ }
+{
+    if b == 0 {
+        return 0;
+    }
+    a / b
+}
+
+// What an element has above 0: loops read signed lists by this, and see no signed number.
+pub fn at(xs: &[i64], i: usize) -> u64
+    requires { ⌜ i < length (now xs) ⌝ }
+    ensures { λ r. ⌜ (r ≡ over (atℤ (now (xs .entry)) i)) × (r < 2 ^ 63) ⌝ }
+{
+    above(xs[i])
+}
+
+// And they write signed lists by this.
+pub fn put(xs: &mut [i64], i: usize, v: u64)
+    requires { ⌜ (i < length (now xs)) × (v < 2 ^ 63) ⌝ }
+    ensures { λ _. ⌜ now (xs .exit) ≡ set (now (xs .entry)) i (pos v) ⌝ }
+{
+    xs[i] = signed(v);
+}
+
+// The sum of what the elements have above 0, or 2 ^ 31 if it is more: no list can make it overflow.
+pub fn sum_above(xs: &[i64]) -> u64
+    ensures { λ r. ⌜ r ≡ min (sumTo ℕ-adds (length (now (xs .entry))) (λ i. over (atℤ (now (xs .entry)) i))) (2 ^ 31) ⌝ }
+{
+    let mut sum: u64 = 0;
+    let mut i: usize = 0;
+    while i < xs.len() {
+        sum = smaller(sum + smaller(at(xs, i), 0x8000_0000), 0x8000_0000);
+        i += 1;
+    }
+    sum
+}
+
+// The first of two checks that fails.
+pub fn then(a: crate::Checked, b: crate::Checked) -> crate::Checked
+    ensures { λ r. ⌜ r ≡ both a b ⌝ }
+{
+    match a {
+        crate::Checked::Pass => b,
+        crate::Checked::Fail { number, place } => crate::Checked::Fail { number, place },
+    }
+}
+
+// 1: the number of items or cells is 1 to 512.
+pub fn check_count(n: usize) -> crate::Checked
+    ensures { λ r. ⌜ r ≡ checkCount n ⌝ }
+{
+    if n == 0 {
+        return crate::Checked::Fail {
+            number: 1,
+            place: 0,
+        };
+    }
+    if 512 < n {
+        return crate::Checked::Fail {
+            number: 1,
+            place: 0,
+        };
+    }
+    crate::Checked::Pass
+}
+
+// 3: a list has the length n.
+pub fn check_length(k: usize, n: usize) -> crate::Checked
+    ensures { λ r. ⌜ r ≡ checkLength k n ⌝ }
+{
+    if k == n {
+        return crate::Checked::Pass;
+    }
+    crate::Checked::Fail {
+        number: 3,
+        place: 0,
+    }
+}
