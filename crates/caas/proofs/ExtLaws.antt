@@ -1,10 +1,10 @@
 -- A split goes by a group's items alone: groups of one size whose items, and the items' values, agree have the same results. Assumes nothing.
-use mathlib.Core.Path.{_≡_, refl, sym, _∙_, ap, ap₂, subst}
-use mathlib.Core.Bool.{Bool, true, false}
-use Prim.Native.Nat.{ℕ, zero, suc, _+_, _-_, _*_, _≤_, _<_, min}
+use mathlib.Core.Path.{_≡_, sym, _∙_, ap, ap₂}
+use mathlib.Core.Bool.{true}
+use Prim.Native.Nat.{ℕ, suc, _+_, _-_, _*_, _≤_, _<_, min}
 use native.Mathlib.Omega.{arith}
 use lib.IntN.{ℤ, pos, natAbs, _-ℤ_}
-use Rattle.numbers.specs.Sums.{ℕ-adds, sumTo, pick}
+use Rattle.numbers.specs.Sums.{ℕ-adds, pick}
 use Rattle.numbers.specs.Quota.{quota}
 use Rattle.numbers.proofs.SumLaws.{sumTo-ext, pick-ext}
 use Rattle.caas.specs.Group.{Group, Each, Splits, sumBefore, sumIn}

@@ -1,11 +1,11 @@
 -- Sums over the items of a group. Assumes nothing.
-use mathlib.Core.Path.{_≡_, refl, sym, _∙_, ap}
+use mathlib.Core.Path.{_≡_, refl, _∙_, ap}
 use mathlib.Core.Bool.{Bool, true, false}
-use Prim.Native.Nat.{ℕ, zero, suc, _+_, _-_, _≤_, _<_}
+use Prim.Native.Nat.{ℕ, suc, _+_, _-_, _≤_}
 use native.Mathlib.Omega.{arith}
 use native.Mathlib.Nat.{add-zero}
-use lib.IntN.{ℤ, pos}
-use Rattle.numbers.specs.Sums.{Adds, ℕ-adds, ℤ-adds, sumTo, pick}
+use lib.IntN.{pos}
+use Rattle.numbers.specs.Sums.{Adds, ℕ-adds, ℤ-adds, pick}
 use Rattle.numbers.specs.Signed.{gap}
 use Rattle.numbers.proofs.SumLaws.{sumTo-next, sumTo-ext, sumTo-none, sumTo-plus, sumTo-le, sumTo-grows, sumTo-pos, pick-ext, pick-plus, pick-le, pick-pos, gap-sum}
 use Rattle.caas.specs.Group.{Group, Each, sumBefore, sumIn}

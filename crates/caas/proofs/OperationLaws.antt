@@ -2,24 +2,24 @@
 -- (B2 to B5 of the operation). Assumes nothing.
 use mathlib.Core.Path.{_≡_, refl, sym, _∙_, ap, ap₂, subst}
 use mathlib.Core.Logic.{_↔_}
-use mathlib.Core.Bool.{Bool, true, false, _&&_}
+use mathlib.Core.Bool.{true, _&&_}
 use mathlib.Core.List.{List, [], _∷_}
-use Prim.Native.Nat.{ℕ, zero, suc, _+_, _≤_, _<_}
+use Prim.Native.Nat.{ℕ, _≤_, _<_}
 use native.Mathlib.Omega.{arith}
 use lib.Dec.{eqb}
 use lib.IntN.{ℤ, pos, natAbs, _-ℤ_}
-use lib.Signed.{leZ, _≤ℤ_}
+use lib.Signed.{_≤ℤ_}
 use lib.ListN.{length}
 use Rattle.numbers.specs.declared.Checked.{Checked}
 use Rattle.numbers.specs.declared.Checked.the-variants.{Pass, Fail}
 use Rattle.numbers.specs.Sums.{ℕ-adds, ℤ-adds, sumTo}
-use Rattle.numbers.specs.Lists.{atℤ, listTo}
+use Rattle.numbers.specs.Lists.{atℤ}
 use Rattle.numbers.specs.Signed.{over, under}
 use Rattle.numbers.specs.Checks.{both, first, checkCount, Decides, rule, ruleAt, inOrder, Holds, Broken, maxTotal}
 use Rattle.numbers.proofs.TestLaws.{and-means, eq-means}
-use Rattle.numbers.proofs.SumLaws.{sumTo-ext, sumTo-none, sumTo-pos, sumTo-over}
+use Rattle.numbers.proofs.SumLaws.{sumTo-ext, sumTo-none, sumTo-over}
 use Rattle.numbers.proofs.ListLaws.{length-listTo, getD-listTo}
-use Rattle.numbers.proofs.SignedLaws.{signed, le-parts, from-zero, over-whole, from-zero-whole, leZ-means}
+use Rattle.numbers.proofs.SignedLaws.{le-parts, from-zero, over-whole, from-zero-whole, leZ-means}
 use Rattle.numbers.proofs.CheckLaws.{no-pass, both-first, both-second, both-assoc, both-pass, decides-unless, decides-from, decides-none, decides-then, every-means, count-decides}
 use Rattle.caas.specs.declared.SplitAnswer.{SplitAnswer}
 use Rattle.caas.specs.declared.SplitAnswer.the-variants.{Done, Refused}

@@ -1,16 +1,16 @@
 -- The portions of an amount and the two passes: what they add up to, and what none exceeds (B6). `quota` enters by its laws alone. Assumes nothing.
-use mathlib.Core.Path.{_≡_, refl, sym, _∙_, ap, ap₂, subst}
-use mathlib.Core.Bool.{Bool, true, false, cond}
+use mathlib.Core.Path.{_≡_, refl, sym, _∙_, ap, ap₂}
+use mathlib.Core.Bool.{true, cond}
 use Prim.Native.Nat.{ℕ, zero, suc, _+_, _-_, _*_, _≤_, _<_, min}
 use native.Mathlib.Omega.{arith}
 use native.Mathlib.Nat.{le-trans, le-of-eq, mul-le-mul-left, mul-add, mul-zero, zero-mul, zero-add}
 use lib.Dec.{eqb}
 use borrow.Author.Tests.{eqb-true}
-use Rattle.numbers.specs.Sums.{ℕ-adds, sumTo, pick}
+use Rattle.numbers.specs.Sums.{ℕ-adds, sumTo}
 use Rattle.numbers.specs.Quota.{quota}
 use Rattle.numbers.proofs.TestLaws.{Tested, holds, fails, tested}
 use Rattle.numbers.proofs.QuotaLaws.{quota-mono, quota-zero, quota-none, quota-whole, quota-part, quota-near}
-use Rattle.caas.specs.Group.{Group, Each, sumBefore, sumIn}
+use Rattle.caas.specs.Group.{Group, sumBefore, sumIn}
 use Rattle.caas.specs.Split.{portion, firstShare, remainder, left, secondShare}
 use Rattle.caas.proofs.GroupLaws.{in-ext, in-none, in-le, in-add, before-add, before-same}
 

@@ -1,19 +1,18 @@
 -- What holds of one split: the results add up to M, lie within the bounds, no division is nearer to the targets, and without weights
 -- each share is less than one unit from the published proportion (B2 to B5). Assumes nothing.
-use mathlib.Core.Path.{_≡_, refl, sym, _∙_, ap, ap₂, subst}
+use mathlib.Core.Path.{_≡_, refl, sym, _∙_, ap}
 use mathlib.Core.Bool.{Bool, true, false}
-use Prim.Native.Nat.{ℕ, zero, suc, _+_, _-_, _*_, _≤_, _<_, min, max}
+use Prim.Native.Nat.{ℕ, _+_, _-_, _*_, _≤_, _<_, min, max}
 use native.Mathlib.Omega.{arith}
 use native.Mathlib.Nat.{add-assoc}
 use native.Mathlib.Decide.{decLe}
 use lib.IntN.{ℤ, pos, natAbs, _-ℤ_}
-use lib.Signed.{ltZ, _≤ℤ_}
 use Rattle.numbers.specs.Sums.{ℕ-adds, ℤ-adds}
-use Rattle.numbers.specs.Signed.{over, under, minℤ, maxℤ, gap}
+use Rattle.numbers.specs.Signed.{over, under, minℤ, gap}
 use Rattle.numbers.proofs.TestLaws.{clash}
 use Rattle.numbers.proofs.SignedLaws.{signed, over-min, over-max, minus-size, minus-up, minus-down, far-parts, over-whole, le-parts}
-use Rattle.caas.specs.Group.{Group, Each, Splits, Within, Divides, distance, sumBefore, sumIn}
-use Rattle.caas.specs.Split.{clip, clipped, deficit, surplus, room, capacity, firstShare, secondShare, moved, shares, result, portion, Proportional}
+use Rattle.caas.specs.Group.{Group, Each, Splits, Within, Divides, distance, sumIn}
+use Rattle.caas.specs.Split.{clip, clipped, deficit, surplus, room, capacity, moved, shares, result, portion, Proportional}
 use Rattle.caas.proofs.GroupLaws.{in-ext, in-le, in-add, in-pos, in-gap}
 use Rattle.caas.proofs.PortionLaws.{both-add, both-cap, unweighted, portion-near, portion-none}
 

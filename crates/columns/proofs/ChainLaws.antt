@@ -1,12 +1,11 @@
 -- Laws of chains: where a walk stands, and which numbers are on the chain. Assumes nothing.
-use mathlib.Core.Path.{_≡_, refl, sym, _∙_, ap}
+use mathlib.Core.Path.{_≡_, refl, _∙_, ap}
 use mathlib.Core.Logic.{_≢_}
 use mathlib.Core.Bool.{true, false}
 use Prim.Native.Nat.{ℕ, zero, suc, _+_, _-_, _≤_, _<_}
 use native.Mathlib.Nat.{add-zero}
 use native.Mathlib.Omega.{arith}
-use lib.Dec.{eqb}
-use borrow.Author.Tests.{eqb-true, eq-eqb, ne-eqb}
+use borrow.Author.Tests.{eq-eqb, ne-eqb}
 use Rattle.columns.specs.Chain.{cursor, onChain}
 
 module _ (next : ℕ → ℕ) (head : ℕ) where
@@ -39,11 +38,7 @@ module _ (next : ℕ → ℕ) (head : ℕ) where
   unfolding onChain
   chain-none k i w e a b = ne-eqb (cursor next head i) i (λ f. absurd (omega (arith, cursor-stay k i w e a (omega arith))))
 
-  -- a number is on the chain exactly if a walk stands there
+  -- where a walk stands, a number of the chain is
   pub chain-some : (u : ℕ) → cursor next head u ≡ u → onChain next head u ≡ true
   unfolding onChain
   chain-some u e = eq-eqb (cursor next head u) u e
-
-  pub chain-at : (u : ℕ) → onChain next head u ≡ true → cursor next head u ≡ u
-  unfolding onChain
-  chain-at u e = eqb-true (cursor next head u) u e

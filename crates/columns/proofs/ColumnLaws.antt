@@ -1,5 +1,5 @@
 -- Laws of the scratch by columns: what a store leaves, and how a column is filled store by store. Assumes nothing.
-use mathlib.Core.Path.{_≡_, refl, sym, _∙_}
+use mathlib.Core.Path.{_≡_, refl, _∙_}
 use mathlib.Core.Logic.{_≢_}
 use mathlib.Core.Bool.{Bool, true, false}
 use mathlib.Core.List.{List}
@@ -34,10 +34,6 @@ stored k u z s h =
 pub in-row : (k m u : ℕ) (s : List ℤ) → k < 6 → u < m → width * m ≤ length s → InRow k s u
 in-row k m u s h l n = record { column = h; row = omega arith }
 
--- another column of the same row
-pub in-column : (j k u : ℕ) (s : List ℤ) → j < 6 → InRow k s u → InRow j s u
-in-column j k u s h r = record { column = h; row = r .row }
-
 -- ---- stores into column k of the first m rows
 
 pub kept-start : (k m : ℕ) (s : List ℤ) → Kept k m s s
@@ -66,7 +62,9 @@ laid-start k m has x s =
     record { kept = kept-start k m s; done = λ u h e. absurd (omega arith); same = λ u h e. refl; rest = λ u h. refl }
 
 -- a member's value is stored
-pub laid-write : (k m : ℕ) (has : ℕ → Bool) (x : ℕ → ℤ) (b : ℕ) (old new t : List ℤ) (z : ℤ) → b < m → Laid k m has x b old new → has b ≡ true → Stored k b z new t → z ≡ x b → Laid k m has x (suc b) old t
+pub laid-write :
+    (k m : ℕ) (has : ℕ → Bool) (x : ℕ → ℤ) (b : ℕ) (old new t : List ℤ) (z : ℤ)
+    → b < m → Laid k m has x b old new → has b ≡ true → Stored k b z new t → z ≡ x b → Laid k m has x (suc b) old t
 laid-write k m has x b old new t z l p e s f =
     record {
       kept = kept-write k m b old new t z l (p .kept) s;
@@ -84,11 +82,15 @@ laid-write k m has x b old new t z l p e s f =
     same-at u i d (no q) = s .rows u q ∙ p .same u (omega arith) d
 
 -- the same at `b + 1`, as a loop over all rows has it
-pub laid-next : (k m : ℕ) (has : ℕ → Bool) (x : ℕ → ℤ) (b : ℕ) (old new t : List ℤ) (z : ℤ) → b < m → Laid k m has x b old new → has b ≡ true → Stored k b z new t → z ≡ x b → Laid k m has x (b + 1) old t
+pub laid-next :
+    (k m : ℕ) (has : ℕ → Bool) (x : ℕ → ℤ) (b : ℕ) (old new t : List ℤ) (z : ℤ)
+    → b < m → Laid k m has x b old new → has b ≡ true → Stored k b z new t → z ≡ x b → Laid k m has x (b + 1) old t
 laid-next k m has x b old new t z l p e s f = rw add-one (laid-write k m has x b old new t z l p e s f)
 
 -- on to the next member: rows that are no members are passed
-pub laid-to : (k m : ℕ) (has : ℕ → Bool) (x : ℕ → ℤ) (b w : ℕ) (old new : List ℤ) → b ≤ w → ((i : ℕ) → b ≤ i → i < w → has i ≡ false) → Laid k m has x b old new → Laid k m has x w old new
+pub laid-to :
+    (k m : ℕ) (has : ℕ → Bool) (x : ℕ → ℤ) (b w : ℕ) (old new : List ℤ)
+    → b ≤ w → ((i : ℕ) → b ≤ i → i < w → has i ≡ false) → Laid k m has x b old new → Laid k m has x w old new
 laid-to k m has x b w old new l none p =
     record {
       kept = p .kept;

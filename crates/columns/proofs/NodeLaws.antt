@@ -1,10 +1,10 @@
 -- One split by three walks along a chain: clip, share out by weights, share out by what is left. Assumes nothing.
-use mathlib.Core.Path.{_≡_, refl, sym, _∙_, ap, ap₂, subst}
+use mathlib.Core.Path.{_≡_, refl, sym, _∙_, ap, ap₂}
 use mathlib.Core.Bool.{Bool, true, false}
 use mathlib.Core.List.{List}
 use Prim.Native.Nat.{ℕ, _+_, _-_, _^_, _≤_, _<_, min}
 use native.Mathlib.Omega.{arith}
-use native.Mathlib.Nat.{le-trans, lt-of-le-of-lt}
+use native.Mathlib.Nat.{lt-of-le-of-lt}
 use lib.IntN.{ℤ, pos, natAbs, _-ℤ_}
 use Rattle.numbers.specs.Sums.{ℕ-adds}
 use Rattle.numbers.specs.Signed.{over}
@@ -14,7 +14,7 @@ use Rattle.caas.proofs.PortionLaws.{portion-most, first-is, second-is, firsts-m
 use Rattle.caas.proofs.SplitLaws.{enough, clipped-most, room-most}
 use Rattle.caas.proofs.ExtLaws.{all-ext, portion-ext}
 use Rattle.columns.specs.Chain.{onChain}
-use Rattle.columns.specs.Columns.{MASS, LOW, HIGH, WEIGHT, FIRST, NEXT, col, num, Kept}
+use Rattle.columns.specs.Columns.{MASS, LOW, HIGH, WEIGHT, FIRST, NEXT, num, Kept}
 use Rattle.columns.specs.Walks.{onChainOf, groupIn, Rising, Clipping, Clipped, roomIn, shareIn, movedIn, Sharing, Shared, Splitting, SplitDone}
 use Rattle.columns.proofs.ColumnLaws.{kept-on}
 
@@ -80,9 +80,9 @@ module _ {m v : ℕ} {s : List ℤ} (ok : Splitting m v s) where
 
   module _ {s₁ : List ℤ} {sum all : ℕ} (c : Clipped m v s s₁ sum all) where
     -- d, as the code has it
-    pub deficit-is : {mass : ℕ} → mass ≡ M → pos mass -ℤ pos sum ≡ deficit G M
+    pub deficit-is : {mass : ℕ} {d : ℤ} → mass ≡ M → d ≡ pos mass -ℤ pos sum → d ≡ deficit G M
     unfolding deficit
-    deficit-is e = ap₂ (λ a b. pos a -ℤ pos b) e (c .sums)
+    deficit-is em ed = ed ∙ ap₂ (λ a b. pos a -ℤ pos b) em (c .sums)
 
     k₁ : Kept MASS m s s₁
     k₁ = c .laid .kept

@@ -30,10 +30,10 @@ module _ (G : Group) (f : ℕ → ℕ) where
       let s : k + suc j ≡ suc (k + j) = omega arith in
       ap (λ w. sumBefore ℕ-adds G w f) s ∙ before-same G f (k + j) (none (k + j) (omega arith) (omega arith)) ∙ pass k j (λ i a b. none i a (omega arith))
 
-  pub before-pass : (k w : ℕ) → k ≤ w → ((i : ℕ) → k ≤ i → i < w → G .has i ≡ false) → sumBefore ℕ-adds G w f ≡ sumBefore ℕ-adds G k f
+  before-pass : (k w : ℕ) → k ≤ w → ((i : ℕ) → k ≤ i → i < w → G .has i ≡ false) → sumBefore ℕ-adds G w f ≡ sumBefore ℕ-adds G k f
   before-pass k w l none = let s : w ≡ k + (w - k) = omega arith in ap (λ x. sumBefore ℕ-adds G x f) s ∙ pass k (w - k) (λ i a b. none i a (omega arith))
 
-  pub before-turn : (u w : ℕ) → G .has u ≡ true → u < w → ((i : ℕ) → suc u ≤ i → i < w → G .has i ≡ false) → sumBefore ℕ-adds G w f ≡ sumBefore ℕ-adds G u f + f u
+  before-turn : (u w : ℕ) → G .has u ≡ true → u < w → ((i : ℕ) → suc u ≤ i → i < w → G .has i ≡ false) → sumBefore ℕ-adds G w f ≡ sumBefore ℕ-adds G u f + f u
   before-turn u w e l none = before-pass (suc u) w (omega arith) none ∙ before-add G f u e
 
   before-first : (w : ℕ) → ((i : ℕ) → 0 ≤ i → i < w → G .has i ≡ false) → 0 ≡ sumBefore ℕ-adds G w f
@@ -46,7 +46,7 @@ module _ {m v : ℕ} {s : List ℤ} (r : Rising m v s) where
   pub own-row : (k : ℕ) → k < 6 → InRow k s v
   own-row k h = record { column = h; row = r .node }
 
-  pub turn-row : (k u : ℕ) (new : List ℤ) → k < 6 → u < m → length new ≡ length s → InRow k new u
+  turn-row : (k u : ℕ) (new : List ℤ) → k < 6 → u < m → length new ≡ length s → InRow k new u
   turn-row k u new h l e = in-row k m u new h l (omega (arith, r .size))
 
   -- where a walk starts
@@ -57,14 +57,14 @@ module _ {m v : ℕ} {s : List ℤ} (r : Rising m v s) where
   head-none i a b = chain-none (num NEXT s) (num FIRST s v) 0 i (num FIRST s v) (cursor-start (num NEXT s) (num FIRST s v)) a b
 
   module _ {u : ℕ} (l : u < m) (here : cursor (num NEXT s) (num FIRST s v) u ≡ u) where
-    on-it : onChainOf v s u ≡ true
-    on-it = chain-some (num NEXT s) (num FIRST s v) u here
+    on-chain : onChainOf v s u ≡ true
+    on-chain = chain-some (num NEXT s) (num FIRST s v) u here
 
-    pub rises : u < num NEXT s u
-    rises = r .rise u l on-it
+    rises : u < num NEXT s u
+    rises = r .rise u l on-chain
 
     next-within : num NEXT s u ≤ m
-    next-within = r .most u l on-it
+    next-within = r .most u l on-chain
 
     next-here : cursor (num NEXT s) (num FIRST s v) (num NEXT s u) ≡ num NEXT s u
     next-here = cursor-stay (num NEXT s) (num FIRST s v) (suc u) (num NEXT s u) (num NEXT s u) (cursor-next (num NEXT s) (num FIRST s v) u here) (omega (arith, rises)) (omega arith)
@@ -73,7 +73,7 @@ module _ {m v : ℕ} {s : List ℤ} (r : Rising m v s) where
     next-none i a b = chain-none (num NEXT s) (num FIRST s v) (suc u) i (num NEXT s u) (cursor-next (num NEXT s) (num FIRST s v) u here) a b
 
     sum-turn : (f : ℕ → ℕ) → sumBefore ℕ-adds (groupIn m v s) (num NEXT s u) f ≡ sumBefore ℕ-adds (groupIn m v s) u f + f u
-    sum-turn f = before-turn (groupIn m v s) f u (num NEXT s u) on-it rises next-none
+    sum-turn f = before-turn (groupIn m v s) f u (num NEXT s u) on-chain rises next-none
 
     -- with the value at u the sum is still part of the whole
     sum-within : (f : ℕ → ℕ) → sumBefore ℕ-adds (groupIn m v s) u f + f u ≤ sumIn ℕ-adds (groupIn m v s) f
@@ -82,7 +82,7 @@ module _ {m v : ℕ} {s : List ℤ} (r : Rising m v s) where
     laid-turn : (x : ℕ → ℤ) {new t : List ℤ} {z : ℤ} → Laid MASS m (onChainOf v s) x u s new → Stored MASS u z new t → z ≡ x u → Laid MASS m (onChainOf v s) x (num NEXT s u) s t
     laid-turn x {new} {t} {z} p w e =
         laid-to MASS m (onChainOf v s) x (suc u) (num NEXT s u) s t rises next-none
-        (laid-write MASS m (onChainOf v s) x u s new t z l p on-it w e)
+        (laid-write MASS m (onChainOf v s) x u s new t z l p on-chain w e)
 
 -- ---- clipping
 
@@ -124,7 +124,10 @@ module _ {m v : ℕ} {s : List ℤ} (ok : Clipping m v s) where
     pub clip-all : {w : ℕ} → w ≡ num WEIGHT new u → all + w < 2 ^ 31
     clip-all e = omega (arith, clip-weight e, st .weighs, ok .light, sum-within (ok .rising) l (st .here) (num WEIGHT s))
 
-    pub clip-turn : {x w next : ℕ} {t : List ℤ} → x ≡ clip (num LOW new u) (num HIGH new u) (col MASS new u) → w ≡ num WEIGHT new u → next ≡ num NEXT new u → Stored MASS u (pos x) new t → ClipState m v s next t (sum + x) (all + w)
+    pub clip-turn :
+        {x w next : ℕ} {t : List ℤ}
+        → x ≡ clip (num LOW new u) (num HIGH new u) (col MASS new u)
+        → w ≡ num WEIGHT new u → next ≡ num NEXT new u → Stored MASS u (pos x) new t → ClipState m v s next t (sum + x) (all + w)
     clip-turn ex ew en p =
         let r = ok .rising in
         rw (clip-next en)
@@ -205,7 +208,8 @@ module _ {byRoom down : Bool} {m v d all : ℕ} {s : List ℤ} (ok : Sharing byR
           portion-is : upto - prior ≡ portion (groupIn m v s) (sizeIn byRoom down s) d u
           unfolding portion
           portion-is =
-              let b : before + size ≡ sumBefore ℕ-adds (groupIn m v s) (suc u) (sizeIn byRoom down s) = ap₂ _+_ (st .befores) size-is ∙ sym (before-add (groupIn m v s) (sizeIn byRoom down s) u (on-it (ok .rising) l (st .here))) in
+              let b : before + size ≡ sumBefore ℕ-adds (groupIn m v s) (suc u) (sizeIn byRoom down s) =
+              ap₂ _+_ (st .befores) size-is ∙ sym (before-add (groupIn m v s) (sizeIn byRoom down s) u (on-chain (ok .rising) l (st .here))) in
               ap₂ _-_ (eu ∙ ap₂ (λ x y. quota (d * x) y) b (ok .whole)) (st .priors ∙ ap (λ x. quota (d * x) (sumIn ℕ-adds (groupIn m v s) (sizeIn byRoom down s))) (st .befores))
 
           share-is : share ≡ shareIn byRoom down m v d s u
@@ -222,7 +226,10 @@ module _ {byRoom down : Bool} {m v d all : ℕ} {s : List ℤ} (ok : Sharing byR
           unfolding movedIn
           moved-is ex ey = ap pos (ey ∙ ap₂ (moved down) (ex ∙ ap over (share-reads MASS (omega arith))) share-is)
 
-          pub share-turn : {x next y : ℕ} {t : List ℤ} → x ≡ num MASS new u → next ≡ num NEXT new u → y ≡ moved down x share → Stored MASS u (pos y) new t → ShareState byRoom down m v d s next t (before + size) upto (given + share) (left + (cap - share))
+          pub share-turn :
+              {x next y : ℕ} {t : List ℤ}
+              → x ≡ num MASS new u → next ≡ num NEXT new u → y ≡ moved down x share → Stored MASS u (pos y) new t
+              → ShareState byRoom down m v d s next t (before + size) upto (given + share) (left + (cap - share))
           share-turn ex en ey p =
               let r = ok .rising in
               rw (share-next en)
@@ -236,7 +243,9 @@ module _ {byRoom down : Bool} {m v d all : ℕ} {s : List ℤ} (ok : Sharing byR
                 leaves = ap₂ _+_ (st .leaves) (ap₂ _-_ cap-is share-is) ∙ sym (sum-turn r l (st .here) (λ w. roomIn down s w - shareIn byRoom down m v d s w));
               })
 
-pub share-end : {byRoom down : Bool} {m v d u before prior given left : ℕ} {s new : List ℤ} → ShareState byRoom down m v d s u new before prior given left → m ≤ u → Shared byRoom down m v d s new given left
+pub share-end :
+    {byRoom down : Bool} {m v d u before prior given left : ℕ} {s new : List ℤ}
+    → ShareState byRoom down m v d s u new before prior given left → m ≤ u → Shared byRoom down m v d s new given left
 share-end {byRoom} {down} {m} {v} {d} {u} {before} {prior} {given} {left} {s} {new} st h =
     let e : u ≡ m = omega (arith, st .within) in
     let t = subst (λ k. ShareState byRoom down m v d s k new before prior given left) e st in

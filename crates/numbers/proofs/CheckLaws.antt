@@ -6,13 +6,11 @@ use mathlib.Core.List.{List, [], _∷_}
 use Prim.Native.Nat.{ℕ, zero, suc, _+_, _-_, _≤_, _<_}
 use native.Mathlib.Omega.{arith}
 use native.Mathlib.Numerals.{add-one}
-use native.Mathlib.Nat.{add-zero}
 use native.Mathlib.Decide.{ℕ-discrete}
-use lib.Dec.{ltb, leb, eqb}
 use Rattle.numbers.specs.declared.Checked.{Checked}
 use Rattle.numbers.specs.declared.Checked.the-variants.{Pass, Fail}
-use Rattle.numbers.specs.Checks.{unless, both, first, firstFrom, everyFrom, Rule, Decides, rule, ruleAt, Holds, Broken, inOrder, checkCount, checkLength}
-use Rattle.numbers.proofs.TestLaws.{Tested, holds, fails, tested, not-so, clash, and-means, lt-means, le-means, eq-means, and-first, and-second, and-intro}
+use Rattle.numbers.specs.Checks.{unless, both, firstFrom, everyFrom, Rule, Decides, rule, ruleAt, Holds, Broken, inOrder, checkCount}
+use Rattle.numbers.proofs.TestLaws.{Tested, holds, fails, tested, clash, and-means, lt-means, le-means, and-first, and-second, and-intro}
 
 -- ---- along a chain: the first passes and the rest decides; the first fails and that is it; the last decides
 

@@ -7,7 +7,7 @@ use native.Mathlib.Numerals.{add-one}
 use native.Mathlib.Omega.{arith}
 use native.Mathlib.Decide.{ℕ-discrete}
 use lib.ListN.{length, getD, take, drop, set, length-append, length-drop, take-append-drop, drop-of-length-le, List·getD-append}
-use lib.Seq.{getD-append-seam, length-take-le, drop-cons, set-at, ext-getD}
+use lib.Seq.{getD-append-seam, length-take-le, drop-cons, set-at}
 use Rattle.numbers.specs.Lists.{listTo, written}
 
 pub length-listTo {ℓ} : {X : Type ℓ} (k : ℕ) (f : ℕ → X) → length (listTo k f) ≡ k

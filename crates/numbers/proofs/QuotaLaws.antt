@@ -1,6 +1,6 @@
 -- The rounded quotient: all that anything else may use of it. Assumes nothing.
 -- The first five laws read the definition; the others follow from those alone, so they hold of every rounding that has the five.
-use mathlib.Core.Path.{_≡_, refl, sym, _∙_, ap}
+use mathlib.Core.Path.{_≡_, sym, _∙_, ap}
 use Prim.Native.Nat.{ℕ, zero, suc, _+_, _-_, _*_, _/_, _%_, _≤_, _<_}
 use native.Mathlib.Omega.{arith}
 use native.Mathlib.Nat.{le-trans, le-of-eq, div-zero, zero-div, div-mul-le-self, le-div-iff-mul-le, add-mul-div-right, mul-div-cancel, mul-le-mul-left, mul-le-mul-right, mul-add, add-mul, mul-comm, div-add-mod', mod-lt, lt-div-mul-add}

@@ -1,6 +1,6 @@
 // Leaf functions for the crates above, each with its whole contract: signed numbers are taken to unsigned ones as early as can be.
 ghost use mathlib.Core.Path.{_≡_};
-ghost use Prim.Native.Nat.{_+_, _≤_, _<_, _^_, min, max};
+ghost use Prim.Native.Nat.{_+_, _<_, _^_, min, max};
 ghost use lib.IntN.{pos, natAbs, _-ℤ_};
 ghost use lib.Signed.{ltZ, leZ};
 ghost use lib.ListN.{length, set};

@@ -1,0 +1,130 @@
+-- The items of a call in the scratch: the columns filled one after the other load them, and the split of the last row's mass is then the
+-- split of the items. Assumes nothing.
+use mathlib.Core.Path.{_≡_, refl, sym, _∙_, ap, subst}
+use mathlib.Core.Bool.{true}
+use mathlib.Core.List.{List}
+use Prim.Native.Nat.{ℕ, zero, suc, _+_, _*_, _≤_, _<_}
+use native.Mathlib.Omega.{arith}
+use native.Mathlib.Numerals.{add-one}
+use native.Mathlib.Decide.{ℕ-discrete}
+use lib.IntN.{ℤ, pos}
+use lib.ListN.{length}
+use Rattle.numbers.specs.Lists.{atℤ, listTo}
+use Rattle.numbers.proofs.ListLaws.{listTo-ext}
+use Rattle.numbers.specs.Signed.{over}
+use Rattle.caas.specs.Group.{Group, Splits}
+use Rattle.caas.specs.Split.{result}
+use Rattle.caas.specs.Operation.{SplitCall, items, SplitFits, itemGroup, splitMasses}
+use Rattle.caas.proofs.ExtLaws.{all-ext, result-ext, splits-ext}
+use Rattle.caas.proofs.OperationLaws.{items-splits, highs-small, weights-small}
+use Rattle.columns.specs.Chain.{cursor, onChain}
+use Rattle.columns.specs.Columns.{width, MASS, LOW, HIGH, WEIGHT, FIRST, NEXT, col, num, Stored, Laid}
+use Rattle.columns.specs.Walks.{onChainOf, groupIn, Splitting, SplitDone}
+use Rattle.split.specs.Items.{Loaded}
+use Rattle.columns.proofs.ChainLaws.{cursor-start, cursor-next, chain-some}
+
+-- a chain from 0 that leads from each number to the next has them all
+all-cursor : (next : ℕ → ℕ) (n : ℕ) → ((u : ℕ) → u < n → next u ≡ u + 1) → (u : ℕ) → u ≤ n → cursor next 0 u ≡ u
+all-cursor next n h zero l = cursor-start next 0
+all-cursor next n h (suc u) l = cursor-next next 0 u (all-cursor next n h u (omega arith)) ∙ h u (omega arith) ∙ add-one u
+
+-- a column filled in all of the first n rows
+abbrev pub Filled : (k n : ℕ) (x : ℕ → ℤ) (old new : List ℤ) → Type 0
+Filled k n x old new = Laid k n (λ u. true) x n old new
+
+-- the same store, by an equal number
+pub stored-as : {k u a b : ℕ} {old new : List ℤ} → a ≡ b → Stored k u (pos a) old new → Stored k u (pos b) old new
+stored-as {k} {u} {a} {b} {old} {new} e h = subst (λ x. Stored k u (pos x) old new) e h
+
+-- ---- loading
+
+module _ (t l h w : List ℤ) (M : ℤ) (s₀ s₁ s₂ s₃ s₄ s₅ s₆ s : List ℤ)
+    (size : width * length t + width ≤ length s₀)
+    (targets : Filled MASS (length t) (atℤ t) s₀ s₁)
+    (lows : Filled LOW (length t) (atℤ l) s₁ s₂)
+    (highs : Filled HIGH (length t) (atℤ h) s₂ s₃)
+    (weights : Filled WEIGHT (length t) (atℤ w) s₃ s₄)
+    (nexts : Filled NEXT (length t) (λ u. pos (u + 1)) s₄ s₅)
+    (head : Stored FIRST (length t) (pos 0) s₅ s₆)
+    (total : Stored MASS (length t) (pos (over M)) s₆ s) where
+  abbrev n : ℕ
+  n = length t
+
+  long : length s ≡ length s₀
+  long = total .long ∙ head .long ∙ nexts .kept .long ∙ weights .kept .long ∙ highs .kept .long ∙ lows .kept .long ∙ targets .kept .long
+
+  -- the last two stores leave the items' other columns
+  past : (j u : ℕ) → j < 6 → 0 < j → u < n → col j s u ≡ col j s₅ u
+  past j u b p q = total .cols j u b (omega arith) ∙ go (ℕ-discrete j FIRST)
+    where
+      go : Dec (j ≡ FIRST) → col j s₆ u ≡ col j s₅ u
+      go (yes e) = rw e (head .rows u (omega arith))
+      go (no e) = head .cols j u b e
+
+  pub loaded : Loaded t l h w M s
+  loaded =
+      record {
+        size = omega (arith, long);
+        targets =
+            λ u i.
+            total .rows u (omega arith) ∙ head .cols MASS u (omega arith) (omega arith)
+            ∙ nexts .kept .cols MASS u (omega arith) (omega arith) ∙ weights .kept .cols MASS u (omega arith) (omega arith)
+            ∙ highs .kept .cols MASS u (omega arith) (omega arith) ∙ lows .kept .cols MASS u (omega arith) (omega arith) ∙ targets .done u i refl;
+        lows =
+            λ u i.
+            past LOW u (omega arith) (omega arith) i ∙ nexts .kept .cols LOW u (omega arith) (omega arith)
+            ∙ weights .kept .cols LOW u (omega arith) (omega arith) ∙ highs .kept .cols LOW u (omega arith) (omega arith) ∙ lows .done u i refl;
+        highs =
+            λ u i.
+            past HIGH u (omega arith) (omega arith) i ∙ nexts .kept .cols HIGH u (omega arith) (omega arith)
+            ∙ weights .kept .cols HIGH u (omega arith) (omega arith) ∙ highs .done u i refl;
+        weights =
+            λ u i.
+            past WEIGHT u (omega arith) (omega arith) i ∙ nexts .kept .cols WEIGHT u (omega arith) (omega arith) ∙ weights .done u i refl;
+        nexts = λ u i. ap over (past NEXT u (omega arith) (omega arith) i ∙ nexts .done u i refl);
+        head = ap over (total .cols FIRST n (omega arith) (omega arith) ∙ head .here);
+        total = ap over (total .here);
+      }
+
+-- ---- splitting
+
+module _ (c : SplitCall) (fits : SplitFits c) (s : List ℤ) (load : Loaded (c .targets) (c .lows) (c .highs) (c .weights) (c .total) s) where
+  abbrev pub G : Group
+  G = itemGroup c
+
+  abbrev k : ℕ
+  k = items c
+
+  -- every item is on the chain
+  has-all : (u : ℕ) → u < k → onChainOf k s u ≡ true
+  has-all u l = ap (λ x. onChain (num NEXT s) x u) (load .head) ∙ chain-some (num NEXT s) 0 u (all-cursor (num NEXT s) k (load .nexts) u (omega arith))
+
+  pub items-splitting : Splitting k k s
+  items-splitting =
+      record {
+        rising =
+            record {
+              size = omega (arith, load .size);
+              node = load .size;
+              head = omega (arith, load .head);
+              rise = λ u l e. omega (arith, load .nexts u l);
+              most = λ u l e. omega (arith, load .nexts u l);
+            };
+        can =
+            subst (Splits (groupIn k k s)) (sym (load .total))
+            (splits-ext G (groupIn k k s) refl (λ u l. sym (has-all u l)) (λ u l e. sym (load .targets u l)) (λ u l e. sym (ap over (load .lows u l))) (λ u l e. sym (ap over (load .highs u l))) (λ u l e. sym (ap over (load .weights u l))) (over (c .total)) (items-splits c fits));
+        small = omega (arith, highs-small c fits, all-ext (groupIn k k s) G refl has-all (num HIGH s) (G .high) (λ u l e. ap over (load .highs u l)));
+        light = omega (arith, weights-small c fits, all-ext (groupIn k k s) G refl has-all (num WEIGHT s) (G .weight) (λ u l e. ap over (load .weights u l)));
+      }
+
+  -- the masses that the walks leave are the items' results
+  pub items-split : (new : List ℤ) → SplitDone k k s new → (u : ℕ) → u < k → pos (num MASS new u) ≡ pos (result G (over (c .total)) u)
+  items-split new done u l =
+      ap (λ z. pos (over z)) (done .done u l (has-all u l))
+      ∙ ap pos
+      (result-ext (groupIn k k s) G refl has-all (λ w i e. load .targets w i) (λ w i e. ap over (load .lows w i)) (λ w i e. ap over (load .highs w i)) (λ w i e. ap over (load .weights w i)) (num MASS s k) u l (has-all u l)
+      ∙ ap (λ x. result G x u) (load .total))
+
+  pub masses-done : (new : List ℤ) → SplitDone k k s new → (n : ℕ) → n ≡ k → listTo n (λ u. pos (num MASS new u)) ≡ splitMasses c
+  unfolding splitMasses
+  masses-done new done n e = ap (λ i. listTo i (λ u. pos (num MASS new u))) e ∙ listTo-ext k _ _ (items-split new done)

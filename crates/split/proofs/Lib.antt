@@ -1,0 +1,3 @@
+-- Laws for the operation's own functions.
+pub mod CheckLaws
+pub mod ItemLaws

@@ -1,0 +1,3 @@
+-- What the functions below the operation ask and leave.
+pub mod Sums
+pub mod Items

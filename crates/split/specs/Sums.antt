@@ -1,0 +1,19 @@
+-- What a check may count on once those before it have passed. Assumes nothing.
+use mathlib.Core.List.{List}
+use Prim.Native.Nat.{ℕ, _<_}
+use lib.IntN.{pos}
+use lib.Signed.{_≤ℤ_}
+use lib.IntN.{ℤ}
+use lib.ListN.{length}
+use Rattle.numbers.specs.Lists.{atℤ}
+use Rattle.numbers.specs.Checks.{maxTotal}
+use Rattle.caas.specs.Operation.{sumℤ}
+
+-- no number of a list is below 0
+pub record NonNegative (xs : List ℤ) : Type 0 where
+  pub at : (u : ℕ) → u < length xs → pos 0 ≤ℤ atℤ xs u
+
+-- nor is its sum above 2147483647
+pub record Summable (xs : List ℤ) : Type 0 where
+  pub each : NonNegative xs
+  pub sum : sumℤ (length xs) xs ≤ℤ pos maxTotal

@@ -1,0 +1,94 @@
+// The split of a call's items in a lent scratch: the columns from the lists, one chain through all items, the walks, and the masses out.
+ghost use mathlib.Core.Path.{_≡_};
+ghost use mathlib.Core.Bool.{true};
+ghost use Prim.Native.Nat.{_+_, _*_, _≤_, _<_};
+ghost use lib.IntN.{pos};
+ghost use lib.ListN.{length};
+ghost use Rattle.numbers.specs.Lists.{atℤ, listTo};
+ghost use Rattle.caas.specs.Operation.{splitCall, splitMasses, SplitFits};
+ghost use Rattle.split.specs.Items.{Loaded};
+ghost use Rattle.columns.specs.Columns.{width, MASS, NEXT, num, Laid};
+use numbers::inner::above;
+use numbers::inner::stored_index;
+use walks::inner::FIRST;
+use walks::inner::HIGH;
+use walks::inner::LOW;
+use walks::inner::MASS;
+use walks::inner::NEXT;
+use walks::inner::WEIGHT;
+use walks::inner::get;
+use walks::inner::put;
+use walks::inner::put_signed;
+use walks::inner::split_group;
+
+// A column of the first rows, from a list.
+fn fill(s: &mut [i64], k: usize, xs: &[i64])
+    requires { ⌜ (k < 6) × (width * length (now xs) ≤ length (now s)) ⌝ }
+    ensures { λ _. ⌜ Laid k (length (now (xs .entry))) (λ u. true) (atℤ (now (xs .entry))) (length (now (xs .entry))) (now (s .entry)) (now (s .exit)) ⌝ }
+{
+    let mut u: usize = 0;
+    while u < xs.len() {
+        put_signed(s, k, u, xs[u]);
+        u += 1;
+    }
+}
+
+// A chain through the first n rows, which leads from each to the next.
+fn link(s: &mut [i64], n: usize)
+    requires { ⌜ (n ≤ 512) × (width * n ≤ length (now s)) ⌝ }
+    ensures { λ _. ⌜ Laid NEXT n (λ u. true) (λ u. pos (u + 1)) n (now (s .entry)) (now (s .exit)) ⌝ }
+{
+    let mut u: usize = 0;
+    while u < n {
+        put(s, NEXT, u, stored_index(u + 1));
+        u += 1;
+    }
+}
+
+// The masses of the first rows.
+fn copy_masses(s: &[i64], masses: &mut [i64])
+    requires { ⌜ width * length (now masses) ≤ length (now s) ⌝ }
+    ensures { λ _. ⌜ now (masses .exit) ≡ listTo (length (now (masses .entry))) (λ u. pos (num MASS (now (s .entry)) u)) ⌝ }
+{
+    let mut u: usize = 0;
+    while u < masses.len() {
+        let x = get(s, MASS, u);
+        numbers::inner::put(masses, u, x);
+        u += 1;
+    }
+}
+
+// The items of a call, and its total, in the scratch.
+fn load(targets: &[i64], lows: &[i64], highs: &[i64], weights: &[i64], total: i64, s: &mut [i64])
+    requires { ⌜ (length (now targets) ≤ 512) × (length (now lows) ≡ length (now targets)) × (length (now highs) ≡ length (now targets)) × (length (now weights) ≡ length (now targets)) ⌝ }
+    requires { ⌜ width * length (now targets) + width ≤ length (now s) ⌝ }
+    ensures { λ _. ⌜ Loaded (now (targets .entry)) (now (lows .entry)) (now (highs .entry)) (now (weights .entry)) total (now (s .exit)) ⌝ }
+{
+    fill(s, MASS, targets);
+    fill(s, LOW, lows);
+    fill(s, HIGH, highs);
+    fill(s, WEIGHT, weights);
+    link(s, targets.len());
+    put(s, FIRST, targets.len(), 0);
+    put(s, MASS, targets.len(), above(total));
+}
+
+// The masses of a call that has passed its checks.
+pub fn split_items(
+    targets: &[i64],
+    lows: &[i64],
+    highs: &[i64],
+    weights: &[i64],
+    total: i64,
+    masses: &mut [i64],
+    s: &mut [i64],
+)
+    requires { ⌜ SplitFits (splitCall (now targets) (now lows) (now highs) (now weights) total (now masses)) ⌝ }
+    requires { ⌜ width * length (now targets) + width ≤ length (now s) ⌝ }
+    ensures { λ _. ⌜ now (masses .exit) ≡ splitMasses (splitCall (now (targets .entry)) (now (lows .entry)) (now (highs .entry)) (now (weights .entry)) total (now (masses .entry))) ⌝ }
+{
+    let n = targets.len();
+    load(targets, lows, highs, weights, total, s);
+    split_group(s, n, n);
+    copy_masses(s, masses);
+}
