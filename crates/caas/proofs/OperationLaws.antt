@@ -15,17 +15,17 @@ use Rattle.numbers.specs.declared.Checked.the-variants.{Pass, Fail}
 use Rattle.numbers.specs.Sums.{ℕ-adds, ℤ-adds, sumTo}
 use Rattle.numbers.specs.Lists.{atℤ}
 use Rattle.numbers.specs.Signed.{over, under}
-use Rattle.numbers.specs.Checks.{both, first, checkCount, Decides, rule, ruleAt, inOrder, Holds, Broken, maxTotal}
+use Rattle.numbers.specs.Checks.{accepted, refused, answered, after, both, first, checkCount, Decides, rule, ruleAt, inOrder, Holds, Broken, maxTotal}
 use Rattle.numbers.proofs.TestLaws.{and-means, eq-means}
 use Rattle.numbers.proofs.SumLaws.{sumTo-ext, sumTo-none, sumTo-over}
 use Rattle.numbers.proofs.ListLaws.{length-listTo, getD-listTo}
 use Rattle.numbers.proofs.SignedLaws.{le-parts, from-zero, over-whole, from-zero-whole, leZ-means}
-use Rattle.numbers.proofs.CheckLaws.{no-pass, both-first, both-second, both-assoc, both-pass, decides-unless, decides-from, decides-none, decides-then, every-means, count-decides}
+use Rattle.numbers.proofs.CheckLaws.{answered-accepted, answered-refused, both-first, both-second, both-assoc, both-pass, decides-unless, decides-from, decides-none, decides-then, every-means, count-decides}
 use Rattle.caas.specs.declared.SplitAnswer.{SplitAnswer}
 use Rattle.caas.specs.declared.SplitAnswer.the-variants.{Done, Refused}
 use Rattle.caas.specs.Group.{Group, Splits, Divides, distance, sumIn}
 use Rattle.caas.specs.Split.{result, Proportional}
-use Rattle.caas.specs.Operation.{SplitCall, items, sumℤ, checkLengths, checkOrder, checkHighs, checkWeights, checkReach, shapeChecks, valueChecks, splitVerdict, Lengths, splitRules, SplitFits, itemGroup, splitMasses, verdictOf, massesBy, SplitContract, Divided, distanceOf, SplitFacts}
+use Rattle.caas.specs.Operation.{SplitCall, items, sumℤ, checkLengths, checkOrder, checkHighs, checkWeights, checkReach, shapeChecks, valueChecks, splitVerdict, Lengths, splitRules, SplitFits, itemGroup, splitMasses, splitTells, SplitContract, Divided, distanceOf, SplitFacts}
 use Rattle.caas.proofs.SplitLaws.{result-divides, result-nearest, result-proportional}
 
 -- ---- each check, and the verdict
@@ -102,8 +102,8 @@ module _ (c : SplitCall) where
       (decides-then _ _ _ _ (weights-decides n (c .weights))
       (decides-then _ _ _ _ (reach-decides n (c .lows) (c .highs) (c .total)) decides-none))))))
 
-  pub refused : (number place : ℕ) → (splitVerdict c ≡ Fail number place) ↔ Broken (splitRules c) number place
-  refused = verdict-decides .fails
+  pub refuses : (number place : ℕ) → (splitVerdict c ≡ Fail number place) ↔ Broken (splitRules c) number place
+  refuses = verdict-decides .fails
 
   fits-holds : Holds (splitRules c) ↔ SplitFits c
   unfolding splitRules Holds
@@ -124,18 +124,18 @@ module _ (c : SplitCall) where
     λ f. ((f .some, f .few), (f .lengths, ((λ u l. (f .nonneg u l, f .order u l)), (f .highs, ((f .weights, f .weighs), ((f .least, f .most), tt)))))),
   )
 
-  pub accepted : (splitVerdict c ≡ Pass) ↔ SplitFits c
-  accepted = (λ e. fits-holds .0 (verdict-decides .passes .0 e), λ f. verdict-decides .passes .1 (fits-holds .1 f))
+  pub accepts : (splitVerdict c ≡ Pass) ↔ SplitFits c
+  accepts = (λ e. fits-holds .0 (verdict-decides .passes .0 e), λ f. verdict-decides .passes .1 (fits-holds .1 f))
 
 -- ---- the answer
 
--- an answer is told by its verdict
-pub verdict-injective : (a b : SplitAnswer) → verdictOf a ≡ verdictOf b → a ≡ b
-unfolding verdictOf
-verdict-injective Done Done e = refl
-verdict-injective Done (Refused n p) e = absurd (no-pass refl e)
-verdict-injective (Refused n p) Done e = absurd (no-pass e refl)
-verdict-injective (Refused n p) (Refused m q) e = cc
+-- what an answer tells is the answer
+pub tells-injective : (a b : SplitAnswer) → splitTells a ≡ splitTells b → a ≡ b
+unfolding splitTells
+tells-injective Done Done e = refl
+tells-injective Done (Refused n p) e = let z : _≡_ {A = ℕ} 0 1 = cc in absurd (omega arith)
+tells-injective (Refused n p) Done e = let z : _≡_ {A = ℕ} 0 1 = cc in absurd (omega arith)
+tells-injective (Refused n p) (Refused m q) e = cc
 
 -- ---- an accepted call
 
@@ -224,17 +224,20 @@ module _ (c : SplitCall) (fits : SplitFits c) where
 -- ---- from the contract alone
 
 -- a call answered Done fits, and its masses have every fact
+done-passed : (c : SplitCall) (masses : List ℤ) → SplitContract c Done masses → splitVerdict c ≡ Pass
+unfolding splitTells
+done-passed c masses p = answered-accepted (splitVerdict c) tt tt (p .answers) .0
+
 pub done-fits : (c : SplitCall) (masses : List ℤ) → SplitContract c Done masses → SplitFits c
-unfolding verdictOf
-done-fits c masses p = accepted c .0 (sym (p .answers))
+done-fits c masses p = accepts c .0 (done-passed c masses p)
 
 pub done-facts : (c : SplitCall) (masses : List ℤ) → SplitContract c Done masses → SplitFacts c masses
-unfolding verdictOf
 done-facts c masses p =
-    subst (SplitFacts c) (sym (p .writes ∙ ap (λ v. massesBy v (splitMasses c) (c .masses)) (sym (p .answers)))) (fits-facts c (done-fits c masses p))
+    subst (SplitFacts c) (sym (p .writes ∙ ap (λ v. after v (splitMasses c) (c .masses)) (done-passed c masses p))) (fits-facts c (done-fits c masses p))
 
 -- a refused call left the masses as they were, and broke the rule of its number
 pub refused-keeps : (c : SplitCall) (number place : ℕ) (masses : List ℤ) → SplitContract c (Refused number place) masses → (masses ≡ c .masses) × Broken (splitRules c) number place
-unfolding verdictOf
+unfolding splitTells
 refused-keeps c number place masses p =
-    (p .writes ∙ ap (λ v. massesBy v (splitMasses c) (c .masses)) (sym (p .answers)), refused c number place .0 (sym (p .answers)))
+    let e = answered-refused (splitVerdict c) tt number place (p .answers) in
+    (p .writes ∙ ap (λ v. after v (splitMasses c) (c .masses)) e, refuses c number place .0 e)

@@ -8,9 +8,9 @@ use Rattle.numbers.specs.Sums.{sumTo}
 use Rattle.numbers.specs.Lists.{listTo}
 use Rattle.numbers.specs.Signed.{minℤ, maxℤ}
 use Rattle.numbers.specs.Quota.{quota}
-use Rattle.numbers.specs.Checks.{firstFrom, everyFrom, checkCount}
+use Rattle.numbers.specs.Checks.{after, firstFrom, everyFrom, checkCount}
 use Rattle.caas.specs.Split.{clip, clipped, deficit, capacity, portion, firstShare, remainder, left, secondShare, shares, result}
-use Rattle.caas.specs.Operation.{SplitCall, splitCall, checkLengths, checkOrder, checkHighs, checkWeights, checkReach, shapeChecks, valueChecks, splitVerdict, splitMasses, massesBy}
+use Rattle.caas.specs.Operation.{SplitCall, splitCall, checkLengths, checkOrder, checkHighs, checkWeights, checkReach, shapeChecks, valueChecks, splitVerdict, splitMasses}
 
 -- a call, the verdict that it gets, and the masses that it leaves
 pub record Row : Type 0 where
@@ -33,7 +33,7 @@ rows =
     ∷ []
 
 abbrev pub got : Row → Row
-got r = record { call = r .call; verdict = splitVerdict (r .call); masses = massesBy (splitVerdict (r .call)) (splitMasses (r .call)) (r .call .masses) }
+got r = record { call = r .call; verdict = splitVerdict (r .call); masses = after (splitVerdict (r .call)) (splitMasses (r .call)) (r .call .masses) }
 
 -- what the definitions give is what 01 says, in every row
 pub examples : map got rows ≡ rows

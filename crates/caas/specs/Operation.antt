@@ -8,11 +8,10 @@ use lib.IntN.{ℤ, pos, natAbs, _-ℤ_}
 use lib.Signed.{leZ, _≤ℤ_}
 use lib.ListN.{length}
 use Rattle.numbers.specs.declared.Checked.{Checked}
-use Rattle.numbers.specs.declared.Checked.the-variants.{Pass, Fail}
 use Rattle.numbers.specs.Sums.{ℕ-adds, ℤ-adds, sumTo}
 use Rattle.numbers.specs.Lists.{atℤ, listTo}
 use Rattle.numbers.specs.Signed.{over}
-use Rattle.numbers.specs.Checks.{unless, first, firstFrom, everyFrom, checkCount, Rule, rule, ruleAt, maxTotal}
+use Rattle.numbers.specs.Checks.{Answered, accepted, refused, answered, after, unless, first, firstFrom, everyFrom, checkCount, Rule, rule, ruleAt, maxTotal}
 use Rattle.caas.specs.declared.SplitAnswer.{SplitAnswer}
 use Rattle.caas.specs.declared.SplitAnswer.the-variants.{Done, Refused}
 use Rattle.caas.specs.Group.{Group}
@@ -129,20 +128,15 @@ itemGroup c =
 unfoldable pub splitMasses : SplitCall → List ℤ
 splitMasses c = listTo (items c) (λ u. pos (result (itemGroup c) (over (c .total)) u))
 
--- the verdict that an answer tells: 01's number and place, or none
-unfoldable pub verdictOf : SplitAnswer → Checked
-verdictOf Done = Pass
-verdictOf (Refused number place) = Fail number place
-
--- a refused call leaves the masses as they were
-abbrev pub massesBy : Checked → List ℤ → List ℤ → List ℤ
-massesBy Pass new old = new
-massesBy (Fail number place) new old = old
+-- what an answer tells
+unfoldable pub splitTells : SplitAnswer → Answered Unit
+splitTells Done = accepted tt
+splitTells (Refused number place) = refused number place
 
 -- the whole contract of the operation
 pub record SplitContract (c : SplitCall) (answer : SplitAnswer) (masses : List ℤ) : Type 0 where
-  pub answers : verdictOf answer ≡ splitVerdict c
-  pub writes : masses ≡ massesBy (splitVerdict c) (splitMasses c) (c .masses)
+  pub answers : splitTells answer ≡ answered (splitVerdict c) tt
+  pub writes : masses ≡ after (splitVerdict c) (splitMasses c) (c .masses)
 
 -- ---- what the masses of an accepted call are, in plain facts
 

@@ -9,7 +9,7 @@ use native.Mathlib.Numerals.{add-one}
 use native.Mathlib.Decide.{ℕ-discrete}
 use Rattle.numbers.specs.declared.Checked.{Checked}
 use Rattle.numbers.specs.declared.Checked.the-variants.{Pass, Fail}
-use Rattle.numbers.specs.Checks.{unless, both, firstFrom, everyFrom, Rule, Decides, rule, ruleAt, Holds, Broken, inOrder, checkCount}
+use Rattle.numbers.specs.Checks.{Answered, accepted, refused, answered, unless, both, firstFrom, everyFrom, Rule, Decides, rule, ruleAt, Holds, Broken, inOrder, checkCount}
 use Rattle.numbers.proofs.TestLaws.{Tested, holds, fails, tested, clash, and-means, lt-means, le-means, and-first, and-second, and-intro}
 
 -- ---- along a chain: the first passes and the rest decides; the first fails and that is it; the last decides
@@ -78,6 +78,16 @@ every-here good i k h e = rw (one-less i k h, e) refl
 pub every-none : (good : ℕ → Bool) (i k : ℕ) → k ≤ i → everyFrom good i (k - i) ≡ true
 unfolding everyFrom
 every-none good i k h = let none : k - i ≡ 0 = omega arith in rw none refl
+
+-- ---- answers
+
+pub answered-accepted : {X : Type 0} (v : Checked) (x y : X) → accepted x ≡ answered v y → (v ≡ Pass) × (x ≡ y)
+answered-accepted Pass x y e = (refl, cc)
+answered-accepted (Fail n p) x y e = let z : _≡_ {A = ℕ} 0 1 = cc in absurd (omega arith)
+
+pub answered-refused : {X : Type 0} (v : Checked) (y : X) (number place : ℕ) → refused number place ≡ answered v y → v ≡ Fail number place
+answered-refused Pass y number place e = let z : _≡_ {A = ℕ} 0 1 = cc in absurd (omega arith)
+answered-refused (Fail n p) y number place e = cc
 
 -- ---- what verdicts mean
 

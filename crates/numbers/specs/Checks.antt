@@ -35,6 +35,22 @@ unfoldable pub everyFrom : (ℕ → Bool) → ℕ → ℕ → Bool
 everyFrom good i zero = true
 everyFrom good i (suc k) = good i && everyFrom good (suc i) k
 
+-- ---- answers
+
+-- what an operation tells: its values, or a refusal's number and place
+pub data Answered (X : Type 0) : Type 0 where
+  accepted : X → Answered X
+  refused : ℕ → ℕ → Answered X
+
+abbrev pub answered : {X : Type 0} → Checked → X → Answered X
+answered Pass values = accepted values
+answered (Fail number place) values = refused number place
+
+-- what a lent list holds afterwards: what an accepted call writes; what it held, if the call is refused
+abbrev pub after : {X : Type 0} → Checked → X → X → X
+after Pass new old = new
+after (Fail number place) new old = old
+
 -- ---- what verdicts mean
 
 -- a check in plain facts: it passes exactly if `fact` holds, and fails with a number at a place exactly if `fault number place` holds

@@ -6,8 +6,9 @@ use mir.Syntax.{w64}
 use mir.Val.{toZ, ofZ}
 use mir.ValLaws.{toZ-ofZ}
 use Rattle.numbers.specs.declared.Checked.the-variants.{Pass}
-use Rattle.caas.specs.Operation.{SplitCall, splitCall, SplitFits, splitVerdict, splitMasses, massesBy, verdictOf}
-use Rattle.caas.proofs.OperationLaws.{accepted}
+use Rattle.numbers.specs.Checks.{answered, after}
+use Rattle.caas.specs.Operation.{SplitCall, splitCall, SplitFits, splitVerdict, splitMasses, splitTells}
+use Rattle.caas.proofs.OperationLaws.{accepts}
 use borrow.Author.Needs.{needs}
 use Rattle.split.proofs.split.Statement.{statement}
 use Rattle.split.proofs.split.Tie as tie
@@ -29,7 +30,7 @@ passed : (c : tie.After-enum-told) → splitVerdict (call (c .before .before .be
 passed c = sym (verdict-is (c .before .before)) ∙ c .enum-told .given .1
 
 fits : (c : tie.After-enum-told) → SplitFits (call (c .before .before .before .before))
-fits c = accepted (call (c .before .before .before .before)) .0 (passed c)
+fits c = accepts (call (c .before .before .before .before)) .0 (passed c)
 
 verdict-requires : tie.Need-verdict-requires
 verdict-requires c κs = search needs
@@ -41,9 +42,9 @@ same-length : tie.Need-same-length
 same-length c = search needs
 
 returns : tie.Need-returns
-unfolding verdictOf
+unfolding splitTells
 returns c = let e = sym (verdict-is (c .before .before .before)) ∙ c .before .verdict2 .given .1 in
-    record { answers = sym e; writes = ap (λ v. massesBy v (splitMasses (call (c .before .before .before .before .before))) (c .before .before .before .before .before .args .masses .now)) (sym e) }
+    record { answers = ap (λ v. answered v tt) (sym e); writes = ap (λ v. after v (splitMasses (call (c .before .before .before .before .before))) (c .before .before .before .before .before .args .masses .now)) (sym e) }
 
 enum-told : tie.Need-enum-told
 enum-told c = search needs
@@ -61,16 +62,16 @@ same-length-2 : tie.Need-same-length-2
 same-length-2 c = search needs
 
 returns-2 : tie.Need-returns-2
-unfolding verdictOf
+unfolding splitTells
 returns-2 c =
     let s = c .before .before .before .before .before .before .before .before .before in
     let e = passed (c .before .before .before .before .before) in
     record {
-      answers = sym e;
+      answers = ap (λ v. answered v tt) (sym e);
       writes =
           c .before .before .split-items .ensures
           ∙ ap (λ (z : ℤ). splitMasses (callAt s z)) (total-is s)
-          ∙ ap (λ v. massesBy v (splitMasses (call s)) (s .args .masses .now)) (sym e);
+          ∙ ap (λ v. after v (splitMasses (call s)) (s .args .masses .now)) (sym e);
     }
 
 pub split-spec : {M : Type 1} → statement M
