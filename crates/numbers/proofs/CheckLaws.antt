@@ -2,7 +2,7 @@
 use mathlib.Core.Path.{_≡_, refl, sym, _∙_, ap, subst}
 use mathlib.Core.Logic.{_⊎_, inl, inr, ⊎-elim, _↔_}
 use mathlib.Core.Bool.{Bool, true, false, _&&_}
-use mathlib.Core.List.{List, [], _∷_}
+use mathlib.Core.List.{List, [], _∷_, _++_}
 use Prim.Native.Nat.{ℕ, zero, suc, _+_, _-_, _≤_, _<_}
 use native.Mathlib.Omega.{arith}
 use native.Mathlib.Numerals.{add-one}
@@ -129,6 +129,39 @@ decides-then (Fail a b) w r rs d e =
             λ h. ⊎-elim (λ f. d .fails n p .1 f) (λ g. absurd (no-pass (d .passes .1 (g .0)) refl)) h,
           );
     }
+
+-- one list of rules after another
+holds-append : (rs ss : List Rule) → Holds (rs ++ ss) ↔ (Holds rs × Holds ss)
+unfolding Holds
+holds-append [] ss = (λ h. (tt, h), λ h. h .1)
+holds-append (r ∷ rs) ss = (
+  λ h. ((h .0, holds-append rs ss .0 (h .1) .0), holds-append rs ss .0 (h .1) .1),
+  λ h. (h .0 .0, holds-append rs ss .1 (h .0 .1, h .1)),
+)
+
+broken-append : (rs ss : List Rule) (n p : ℕ) → Broken (rs ++ ss) n p ↔ (Broken rs n p ⊎ (Holds rs × Broken ss n p))
+unfolding Holds Broken
+broken-append [] ss n p = (λ h. inr (tt, h), λ h. ⊎-elim (λ f. absurd f) (λ g. g .1) h)
+broken-append (r ∷ rs) ss n p = (to (broken-append rs ss n p .0), from (broken-append rs ss n p .1))
+  where
+    to : (Broken (rs ++ ss) n p → Broken rs n p ⊎ (Holds rs × Broken ss n p)) → r .fault n p ⊎ (r .fact × Broken (rs ++ ss) n p) → (r .fault n p ⊎ (r .fact × Broken rs n p)) ⊎ ((r .fact × Holds rs) × Broken ss n p)
+    to k (inl f) = inl (inl f)
+    to k (inr g) = ⊎-elim (λ x. inl (inr (g .0, x))) (λ y. inr ((g .0, y .0), y .1)) (k (g .1))
+
+    from : (Broken rs n p ⊎ (Holds rs × Broken ss n p) → Broken (rs ++ ss) n p) → (r .fault n p ⊎ (r .fact × Broken rs n p)) ⊎ ((r .fact × Holds rs) × Broken ss n p) → r .fault n p ⊎ (r .fact × Broken (rs ++ ss) n p)
+    from k (inl (inl f)) = inl f
+    from k (inl (inr g)) = inr (g .0, k (inl (g .1)))
+    from k (inr h) = inr (h .0 .0, k (inr (h .0 .1, h .1)))
+
+pub decides-append : (v w : Checked) (rs ss : List Rule) → Decides v (inOrder rs) → Decides w (inOrder ss) → Decides (both v w) (inOrder (rs ++ ss))
+decides-append v w rs ss d e = carry (decides-then v w (inOrder rs) ss d e)
+  where
+    carry : Decides (both v w) (inOrder (inOrder rs ∷ ss)) → Decides (both v w) (inOrder (rs ++ ss))
+    carry x = unfold Holds Broken in
+        (record {
+          passes = (λ q. holds-append rs ss .1 (x .passes .0 q), λ h. x .passes .1 (holds-append rs ss .0 h));
+          fails = λ n p. (λ q. broken-append rs ss n p .1 (x .fails n p .0 q), λ h. x .fails n p .1 (broken-append rs ss n p .0 h));
+        })
 
 -- every place below k passes its test
 module _ (good : ℕ → Bool) (P : ℕ → Type 0) (e : (i : ℕ) → (good i ≡ true) ↔ P i) where

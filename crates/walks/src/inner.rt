@@ -1,5 +1,5 @@
-// The walks: clip, share out by weights, share out by what is left. The scratch is lent whole; its columns are reached by `get`, `put`
-// and `put_signed` alone.
+// The walks: clip, share out by weights, share out by what is left. The scratch is lent whole; its columns are reached by `get`,
+// `get_signed`, `put` and `put_signed` alone.
 ghost use mathlib.Core.Path.{_≡_};
 ghost use Prim.Native.Nat.{_<_, _^_};
 ghost use lib.IntN.{pos};
@@ -29,6 +29,14 @@ pub fn get(s: &[i64], k: usize, u: usize) -> u64
     ensures { λ r. ⌜ (r ≡ num k (now (s .entry)) u) × (r < 2 ^ 63) ⌝ }
 {
     numbers::inner::at(s, WIDTH * u + k)
+}
+
+// What it has there, with its sign.
+pub fn get_signed(s: &[i64], k: usize, u: usize) -> i64
+    requires { ⌜ InRow k (now s) u ⌝ }
+    ensures { λ r. ⌜ r ≡ col k (now (s .entry)) u ⌝ }
+{
+    s[WIDTH * u + k]
 }
 
 pub fn put(s: &mut [i64], k: usize, u: usize, v: u64)

@@ -1,0 +1,104 @@
+-- The operation Reconstruct: what it is given, its verdict, its answer, and the lists it leaves. Assumes nothing.
+use mathlib.Core.Path.{_≡_}
+use mathlib.Core.List.{List, [], _∷_, _++_}
+use Prim.Native.Nat.{ℕ, _*_, _≤_, _<_}
+use lib.IntN.{ℤ, pos}
+use lib.ListN.{length}
+use Rattle.numbers.specs.declared.Checked.{Checked}
+use Rattle.numbers.specs.Lists.{at, listTo, written}
+use Rattle.numbers.specs.Checks.{Answered, accepted, refused, answered, after, first, Rule, rule, ruleAt, maxTotal}
+use Rattle.columns.specs.Columns.{width}
+use Rattle.qlt.specs.declared.Repair.{Repair}
+use Rattle.qlt.specs.declared.Reconstructed.{Reconstructed}
+use Rattle.qlt.specs.declared.Reconstructed.the-variants.{Done, Refused}
+use Rattle.qlt.specs.Tree.{NodeRules}
+use Rattle.qlt.specs.Field.{Lists, cells, nodes, field, Ordered, outcome, number, changeOf}
+use Rattle.qlt.specs.Masses.{treeMass, treeMasses}
+use Rattle.qlt.specs.Checks.{sum, shapeOf, valueChecks, checkReach}
+
+-- all that a call is given
+pub record Call : Type 0 where
+  pub lists : Lists
+  pub total : ℕ
+  pub masses : List ℕ
+  pub scratch : List ℤ
+
+abbrev pub call : Lists → ℕ → List ℕ → List ℤ → Call
+call lists total masses scratch = record { lists = lists; total = total; masses = masses; scratch = scratch }
+
+unfoldable pub verdict : Call → Checked
+verdict c =
+    first
+    (shapeOf (length (c .masses)) (c .lists) (length (c .scratch))
+    ∷ valueChecks (c .lists)
+    ∷ checkReach (c .lists .safeLows) (c .lists .safeHighs) (c .total)
+    ∷ [])
+
+-- ---- what the checks mean
+
+-- k and s are the lengths of the list of masses and of the scratch
+pub record Lengths (f : Lists) (k s : ℕ) : Type 0 where
+  pub masses : k ≡ cells f
+  pub lows : length (f .lows) ≡ cells f
+  pub highs : length (f .highs) ≡ cells f
+  pub safeLows : length (f .safeLows) ≡ cells f
+  pub safeHighs : length (f .safeHighs) ≡ cells f
+  pub weights : length (f .weights) ≡ cells f
+  pub scratch : width * nodes f ≤ s
+
+-- the rules of 1 to 7, which Step shares, in 01's order; and that of 8
+unfoldable pub fieldRules : Lists → ℕ → ℕ → List Rule
+fieldRules f k s =
+    rule 1 ((0 < cells f) × (cells f ≤ 512))
+    ∷ rule 2 ((cells f ≤ nodes f) × (nodes f ≤ 1024))
+    ∷ rule 3 (Lengths f k s)
+    ∷ ruleAt 4 (nodes f) (NodeRules (at (f .parents)) (cells f) (nodes f))
+    ∷ ruleAt 5 (cells f) (Ordered (field f))
+    ∷ rule 6 (sum (f .safeHighs) ≤ maxTotal)
+    ∷ rule 7 (sum (f .weights) ≤ maxTotal)
+    ∷ []
+
+abbrev pub reachRule : Lists → ℕ → Rule
+reachRule f M = rule 8 ((sum (f .safeLows) ≤ M) × (M ≤ sum (f .safeHighs)))
+
+abbrev pub rules : Call → List Rule
+rules c = fieldRules (c .lists) (length (c .masses)) (length (c .scratch)) ++ (reachRule (c .lists) (c .total) ∷ [])
+
+-- a field that breaks none of 1 to 7
+pub record FieldFits (f : Lists) (k s : ℕ) : Type 0 where
+  pub some : 0 < cells f
+  pub few : cells f ≤ 512
+  pub nodes-room : cells f ≤ nodes f
+  pub nodes-few : nodes f ≤ 1024
+  pub lengths : Lengths f k s
+  pub tree : (v : ℕ) → v < nodes f → NodeRules (at (f .parents)) (cells f) (nodes f) v
+  pub order : (c : ℕ) → c < cells f → Ordered (field f) c
+  pub safe-highs : sum (f .safeHighs) ≤ maxTotal
+  pub weights : sum (f .weights) ≤ maxTotal
+
+-- a call that breaks none
+pub record Fits (c : Call) : Type 0 where
+  pub field-fits : FieldFits (c .lists) (length (c .masses)) (length (c .scratch))
+  pub least : sum (c .lists .safeLows) ≤ c .total
+  pub most : c .total ≤ sum (c .lists .safeHighs)
+
+-- ---- the answer, and the lists at exit
+
+-- what an accepted call gives beside the masses
+unfoldable pub repair : Lists → ℕ → Repair
+repair f M = record { outcome = number (outcome (field f) M); total = M; change = changeOf (field f) (treeMass (field f) M) }
+
+-- what an answer tells
+unfoldable pub tells : Reconstructed → Answered Repair
+tells (Done r) = accepted r
+tells (Refused number place) = refused number place
+
+-- the first k numbers are 0, the others as they were
+unfoldable pub cleared : ℕ → List ℤ → List ℤ
+cleared k s = written s 0 (listTo k (λ i. pos 0))
+
+-- the whole contract of the operation
+pub record ReconstructContract (c : Call) (answer : Reconstructed) (masses : List ℕ) (scratch : List ℤ) : Type 0 where
+  pub answers : tells answer ≡ answered (verdict c) (repair (c .lists) (c .total))
+  pub writes : masses ≡ after (verdict c) (treeMasses (field (c .lists)) (c .total)) (c .masses)
+  pub leaves : scratch ≡ after (verdict c) (cleared (width * nodes (c .lists)) (c .scratch)) (c .scratch)

@@ -1,0 +1,16 @@
+// QLT over whole masses: the tree, the field, the bounds in force, the whole tree and what holds of it, and what the operation
+// Reconstruct checks, answers and writes. Definitions (specs/) and laws (proofs/) alone; the code is in the crates `solve` and
+// `reconstruct`. Relies on `columns` (the scratch's width), `caas` and `numbers`.
+
+// What an accepted field gives beside its masses, in 01's terms: the outcome, M and the change.
+pub struct Repair {
+    pub outcome: u32,
+    pub total: u32,
+    pub change: u64,
+}
+
+// Reconstruct's answer: the masses are written, or the call is refused with 01's number and place.
+pub enum Reconstructed {
+    Done(Repair),
+    Refused { number: u32, place: u32 },
+}
