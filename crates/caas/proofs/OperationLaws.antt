@@ -15,7 +15,7 @@ use Rattle.numbers.specs.declared.Checked.the-variants.{Pass, Fail}
 use Rattle.numbers.specs.Sums.{ℕ-adds, ℤ-adds, sumTo}
 use Rattle.numbers.specs.Lists.{atℤ}
 use Rattle.numbers.specs.Signed.{over, under}
-use Rattle.numbers.specs.Checks.{accepted, refused, answered, after, both, first, checkCount, Decides, rule, ruleAt, inOrder, Holds, Broken, maxTotal}
+use Rattle.numbers.specs.Checks.{after, both, first, checkCount, Decides, rule, ruleAt, inOrder, Holds, Broken, maxTotal}
 use Rattle.numbers.proofs.TestLaws.{and-means, eq-means}
 use Rattle.numbers.proofs.SumLaws.{sumTo-ext, sumTo-none, sumTo-over}
 use Rattle.numbers.proofs.ListLaws.{length-listTo, getD-listTo}

@@ -9,7 +9,7 @@ use native.Mathlib.Numerals.{add-one}
 use native.Mathlib.Decide.{ℕ-discrete}
 use Rattle.numbers.specs.declared.Checked.{Checked}
 use Rattle.numbers.specs.declared.Checked.the-variants.{Pass, Fail}
-use Rattle.numbers.specs.Checks.{Answered, accepted, refused, answered, unless, both, firstFrom, everyFrom, Rule, Decides, rule, ruleAt, Holds, Broken, inOrder, checkCount}
+use Rattle.numbers.specs.Checks.{accepted, refused, answered, unless, both, firstFrom, everyFrom, Rule, Decides, rule, ruleAt, Holds, Broken, inOrder, checkCount}
 use Rattle.numbers.proofs.TestLaws.{Tested, holds, fails, tested, clash, and-means, lt-means, le-means, and-first, and-second, and-intro}
 
 -- ---- along a chain: the first passes and the rest decides; the first fails and that is it; the last decides

@@ -1,8 +1,10 @@
 -- Laws of sums, for every kind of number at once; then those of order, in ℕ. Assumes nothing.
 use mathlib.Core.Path.{_≡_, refl, sym, _∙_, ap, ap₂}
+use mathlib.Core.Logic.{_≢_}
 use mathlib.Core.Bool.{Bool, true, false}
 use Prim.Native.Nat.{ℕ, zero, suc, _+_, _-_, _≤_, _<_}
 use native.Mathlib.Omega.{arith}
+use native.Mathlib.Decide.{ℕ-discrete}
 use lib.IntN.{ℤ, pos, _+ℤ_}
 use Rattle.numbers.specs.Sums.{Adds, ℕ-adds, ℤ-adds, sumTo, pick}
 use Rattle.numbers.specs.Signed.{over, under, gap}
@@ -48,6 +50,33 @@ module _ (A : Adds) where
   pub pick-plus : (b : Bool) (x y : A .Num) → pick A b (plus x y) ≡ plus (pick A b x) (pick A b y)
   pick-plus true x y = refl
   pick-plus false x y = sym (idl none)
+
+  pub pick-none : (b : Bool) → pick A b none ≡ none
+  pick-none true = refl
+  pick-none false = refl
+
+  pub pick-skip : (b : Bool) (x : A .Num) → (b ≡ true → x ≡ none) → pick A b x ≡ none
+  pick-skip b x h = pick-ext b x none h ∙ pick-none b
+
+  pub pick-sum : (b : Bool) (k : ℕ) (f : ℕ → A .Num) → pick A b (sumTo A k f) ≡ sumTo A k (λ i. pick A b (f i))
+  pick-sum true k f = refl
+  pick-sum false k f = sym (sumTo-none k (λ i. none) (λ i l. refl))
+
+  -- a sum of sums, in either order
+  pub sumTo-swap : (k l : ℕ) (f : ℕ → ℕ → A .Num) → sumTo A k (λ i. sumTo A l (λ j. f i j)) ≡ sumTo A l (λ j. sumTo A k (λ i. f i j))
+  unfolding sumTo
+  sumTo-swap zero l f = sym (sumTo-none l (λ j. none) (λ j h. refl))
+  sumTo-swap (suc k) l f = ap (λ x. plus x (sumTo A l (f k))) (sumTo-swap k l f) ∙ sym (sumTo-plus l (λ j. sumTo A k (λ i. f i j)) (f k))
+
+  -- a sum of which one summand alone counts
+  pub sumTo-one : (k : ℕ) (f : ℕ → A .Num) (w : ℕ) → w < k → ((i : ℕ) → i < k → i ≢ w → f i ≡ none) → sumTo A k f ≡ f w
+  unfolding sumTo
+  sumTo-one zero f w l h = absurd (omega arith)
+  sumTo-one (suc k) f w l h = go (ℕ-discrete k w) (λ l′. sumTo-one k f w l′ (λ i j. h i (omega arith)))
+    where
+      go : Dec (k ≡ w) → (w < k → sumTo A k f ≡ f w) → plus (sumTo A k f) (f k) ≡ f w
+      go (yes e) r = ap₂ plus (sumTo-none k f (λ i j. h i (omega arith) (omega arith))) (ap f e) ∙ idl (f w)
+      go (no e) r = ap₂ plus (r (omega arith)) (h k (omega arith) e) ∙ idr (f w)
 
 -- ---- order, in ℕ
 

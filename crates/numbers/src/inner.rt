@@ -8,6 +8,7 @@ ghost use Rattle.numbers.specs.Sums.{ℕ-adds, sumTo};
 ghost use Rattle.numbers.specs.Lists.{atℤ};
 ghost use Rattle.numbers.specs.Signed.{over};
 ghost use Rattle.numbers.specs.Quota.{quota};
+ghost use Rattle.numbers.specs.declared.Checked.the-variants.{Fail};
 ghost use Rattle.numbers.specs.Checks.{both, checkCount, checkLength};
 
 // The smaller and the larger of two.
@@ -126,6 +127,17 @@ pub fn then(a: crate::Checked, b: crate::Checked) -> crate::Checked
     match a {
         crate::Checked::Pass => b,
         crate::Checked::Fail { number, place } => crate::Checked::Fail { number, place },
+    }
+}
+
+// A failure at a place.
+pub fn fail_at(number: u32, place: usize) -> crate::Checked
+    requires { ⌜ place < 2 ^ 32 ⌝ }
+    ensures { λ r. ⌜ r ≡ Fail number place ⌝ }
+{
+    crate::Checked::Fail {
+        number,
+        place: place as u32,
     }
 }
 

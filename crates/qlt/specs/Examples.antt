@@ -2,20 +2,20 @@
 use mathlib.Core.Path.{_≡_, refl}
 use mathlib.Core.List.{List, [], _∷_, map}
 use Prim.Native.Nat.{ℕ}
-use lib.IntN.{ℤ, pos, negsuc}
+use lib.IntN.{pos, negsuc}
 use lib.ListN.{replicate}
 use Rattle.numbers.specs.Sums.{sumTo}
-use Rattle.numbers.specs.Lists.{listTo, written}
+use Rattle.numbers.specs.Lists.{listTo}
 use Rattle.numbers.specs.Signed.{minℤ, maxℤ}
 use Rattle.numbers.specs.Quota.{quota}
 use Rattle.numbers.specs.Checks.{Answered, accepted, refused, answered, after, firstFrom, checkCount}
 use Rattle.caas.specs.Split.{clip, clipped, deficit, capacity, portion, firstShare, remainder, left, secondShare, shares, result}
 use Rattle.qlt.specs.declared.Repair.{Repair}
 use Rattle.qlt.specs.Tree.{leads, childOf, anyChild, nodeSum, parentOk, nodeOk, massFrom, massAt}
-use Rattle.qlt.specs.Field.{Lists, lists, field, outcome, number, lowIn, highIn, changeOf}
+use Rattle.qlt.specs.Field.{lists, field, outcome, number, lowIn, highIn, changeOf}
 use Rattle.qlt.specs.Masses.{groupOf, treeMass, treeMasses}
 use Rattle.qlt.specs.Checks.{checkNodes, checkLists, checkTree, inOrder, checkOrder, checkSum, checkReach, shapeChecks, valueChecks}
-use Rattle.qlt.specs.Operation.{Call, call, verdict, repair, cleared}
+use Rattle.qlt.specs.Operation.{Call, call, verdict, repair}
 
 -- a call, what it tells, and the masses that it leaves
 pub record Row : Type 0 where

@@ -1,9 +1,9 @@
 -- A field ('The field' and 'The whole tree' of 01): cells, tree, bounds in force, and what masses are measured by. Assumes nothing.
 use mathlib.Core.Path.{_≡_}
-use mathlib.Core.Bool.{cond, _&&_}
+use mathlib.Core.Bool.{cond}
 use mathlib.Core.List.{List}
 use Prim.Native.Nat.{ℕ, suc, _+_, _-_, _≤_, _<_}
-use lib.Dec.{leb, ltb}
+use lib.Dec.{ltb}
 use lib.IntN.{ℤ, pos, negsuc, natAbs, _-ℤ_}
 use lib.ListN.{length}
 use Rattle.numbers.specs.Sums.{ℕ-adds, ℤ-adds, sumTo}

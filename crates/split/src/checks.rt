@@ -13,6 +13,7 @@ use numbers::Checked;
 use numbers::inner::at_most;
 use numbers::inner::check_count;
 use numbers::inner::check_length;
+use numbers::inner::fail_at;
 use numbers::inner::signed;
 use numbers::inner::sum_above;
 use numbers::inner::then;
@@ -51,10 +52,7 @@ fn check_order(lows: &[i64], highs: &[i64]) -> Checked
     let mut u: usize = 0;
     while u < lows.len() {
         if !ordered_at(lows, highs, u) {
-            return Checked::Fail {
-                number: 5,
-                place: u as u32,
-            };
+            return fail_at(5, u);
         }
         u += 1;
     }

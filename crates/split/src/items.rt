@@ -5,9 +5,11 @@ ghost use Prim.Native.Nat.{_+_, _*_, _≤_, _<_};
 ghost use lib.IntN.{pos};
 ghost use lib.ListN.{length};
 ghost use Rattle.numbers.specs.Lists.{atℤ, listTo};
-ghost use Rattle.caas.specs.Operation.{splitCall, splitMasses, SplitFits};
+ghost use Rattle.numbers.specs.Checks.{after};
+ghost use Rattle.caas.specs.Operation.{splitCall, splitMasses, splitVerdict, SplitFits};
 ghost use Rattle.split.specs.Items.{Loaded};
 ghost use Rattle.columns.specs.Columns.{width, MASS, NEXT, num, Laid};
+use numbers::Checked;
 use numbers::inner::above;
 use numbers::inner::stored_index;
 use walks::inner::FIRST;
@@ -74,7 +76,7 @@ fn load(targets: &[i64], lows: &[i64], highs: &[i64], weights: &[i64], total: i6
 }
 
 // The masses of a call that has passed its checks.
-pub fn split_items(
+fn split_items(
     targets: &[i64],
     lows: &[i64],
     highs: &[i64],
@@ -91,4 +93,25 @@ pub fn split_items(
     load(targets, lows, highs, weights, total, s);
     split_group(s, n, n);
     copy_masses(s, masses);
+}
+
+// What a call leaves in the masses, by its verdict.
+pub fn split_by(
+    verdict: Checked,
+    targets: &[i64],
+    lows: &[i64],
+    highs: &[i64],
+    weights: &[i64],
+    total: i64,
+    masses: &mut [i64],
+    s: &mut [i64],
+)
+    requires { ⌜ verdict ≡ splitVerdict (splitCall (now targets) (now lows) (now highs) (now weights) total (now masses)) ⌝ }
+    requires { ⌜ width * 512 + width ≤ length (now s) ⌝ }
+    ensures { λ _. ⌜ now (masses .exit) ≡ after verdict (splitMasses (splitCall (now (targets .entry)) (now (lows .entry)) (now (highs .entry)) (now (weights .entry)) total (now (masses .entry)))) (now (masses .entry)) ⌝ }
+{
+    if let Checked::Fail { number, place } = verdict {
+        return;
+    }
+    split_items(targets, lows, highs, weights, total, masses, s);
 }

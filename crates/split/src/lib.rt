@@ -1,11 +1,23 @@
 // The operation Split: ClipAndAssuredSum on one group of items. Public: `split`; the checks and the work below it are in modules of
 // their own, for this crate alone. Relies on `walks`, `columns`, `caas` and `numbers`.
-ghost use Rattle.caas.specs.Operation.{splitCall, SplitContract};
+ghost use mathlib.Core.Path.{_≡_};
+ghost use Rattle.numbers.specs.Checks.{answered};
+ghost use Rattle.caas.specs.Operation.{splitCall, splitTells, SplitContract};
 use caas::SplitAnswer;
 use numbers::Checked;
 
 mod checks;
 mod items;
+
+// The answer that tells a verdict.
+fn answer(verdict: Checked) -> SplitAnswer
+    ensures { λ r. ⌜ splitTells r ≡ answered verdict tt ⌝ }
+{
+    match verdict {
+        Checked::Pass => SplitAnswer::Done,
+        Checked::Fail { number, place } => SplitAnswer::Refused { number, place },
+    }
+}
 
 // Splits `total` among the items, each with a target, a low, a high and a weight, and writes their masses. A refused call writes nothing.
 pub fn split(
@@ -19,11 +31,17 @@ pub fn split(
     ensures { λ r. ⌜ SplitContract (splitCall (now (targets .entry)) (now (lows .entry)) (now (highs .entry)) (now (weights .entry)) total (now (masses .entry))) r (now (masses .exit)) ⌝ }
 {
     let verdict = checks::verdict(targets, lows, highs, weights, total, masses);
-    if let Checked::Fail { number, place } = verdict {
-        return SplitAnswer::Refused { number, place };
-    }
     // a row for each of 512 items, and one for the total
     let mut scratch = [0i64; 3078];
-    items::split_items(targets, lows, highs, weights, total, masses, &mut scratch);
-    SplitAnswer::Done
+    items::split_by(
+        verdict,
+        targets,
+        lows,
+        highs,
+        weights,
+        total,
+        masses,
+        &mut scratch,
+    );
+    answer(verdict)
 }

@@ -23,13 +23,13 @@ loop-holds c = (omega arith, rw sub-zero)
 ordered-at-requires : tie.Need-ordered-at-requires Inv-loop μ-loop
 ordered-at-requires c κs = omega arith
 
-cast-t7 : tie.Need-cast-t7 Inv-loop μ-loop
-cast-t7 c = omega arith
+fail-at-requires : tie.Need-fail-at-requires Inv-loop μ-loop
+fail-at-requires c κs = omega arith
 
 returns : tie.Need-returns Inv-loop μ-loop
 unfolding checkOrder
-returns c = let a = c .before .before .before .before .args in
-    sym (c .before .before .before .loop .inv .1 ∙ first-here (orderedAt (a .lows .now) (a .highs .now)) 5 (c .before .before .before .loop .u) (length (a .lows .now)) (c .before .before .loop-test .taken) (sym (c .before .ordered-at .ensures) ∙ not-true _ (c .if1 .taken)))
+returns c = let a = c .before .before .before .before .before .args in
+    c .fail-at .ensures ∙ sym (c .before .before .before .before .loop .inv .1 ∙ first-here (orderedAt (a .lows .now) (a .highs .now)) 5 (c .before .before .before .before .loop .u) (length (a .lows .now)) (c .before .before .before .loop-test .taken) (sym (c .before .before .ordered-at .ensures) ∙ not-true _ (c .before .if1 .taken)))
 
 add-u : tie.Need-add-u Inv-loop μ-loop
 add-u c = omega arith
@@ -54,7 +54,7 @@ check-order-spec =
     μ-loop
     loop-holds
     ordered-at-requires
-    cast-t7
+    fail-at-requires
     returns
     add-u
     loop-less

@@ -1,0 +1,3 @@
+-- The laws of the passes over a whole tree, by file; each stands over the definitions of specs/ alone.
+pub mod LinkLaws
+pub mod DescentLaws

@@ -1,0 +1,2 @@
+-- The passes over a whole tree; their laws are in proofs/.
+pub mod Descent

@@ -1,0 +1,54 @@
+// From the root down: the chains of each node's children, then the splits along them, in falling number.
+ghost use mathlib.Core.Path.{_≡_};
+ghost use Prim.Native.Nat.{ℕ, _*_, _≤_, _<_};
+ghost use lib.ListN.{length};
+ghost use Rattle.numbers.specs.Lists.{at};
+ghost use Rattle.columns.specs.Columns.{width, FIRST, num};
+ghost use Rattle.qlt.specs.Tree.{Valid};
+ghost use Rattle.passes.specs.Descent.{Linked, SameData, Descending, Descended};
+use numbers::inner::stored_index;
+use walks::inner::FIRST;
+use walks::inner::NEXT;
+use walks::inner::get;
+use walks::inner::put;
+use walks::inner::split_group;
+
+// A parent as an index.
+fn wide(x: u32) -> usize
+    ensures { λ r. ⌜ r ≡ x ⌝ }
+{
+    x as usize
+}
+
+// Chains each node's children in rising number: FIRST is its first child, NEXT a child's next sibling, m is none.
+pub fn link(parents: &[u32], m: usize, s: &mut [i64])
+    requires { ⌜ Valid (at (now parents)) 1 m ⌝ }
+    requires { ⌜ m ≤ length (now parents) ⌝ }
+    requires { ⌜ width * m ≤ length (now s) ⌝ }
+    requires { ⌜ ((v : ℕ) → v < m → num FIRST (now s) v ≡ m) ⌝ }
+    ensures { λ _. ⌜ Linked (at (now (parents .entry))) m 0 (now (s .exit)) ⌝ }
+    ensures { λ _. ⌜ SameData m (now (s .entry)) (now (s .exit)) ⌝ }
+{
+    let mut u = m - 1;
+    while 0 < u {
+        u -= 1;
+        let parent = wide(parents[u]);
+        let first = get(s, FIRST, parent);
+        put(s, NEXT, u, first);
+        put(s, FIRST, parent, stored_index(u));
+    }
+}
+
+// Splits each inner node's mass among its children: the masses of all nodes take their targets' place, and the root's is given.
+pub fn descend(parents: &[u32], n: usize, m: usize, s: &mut [i64])
+    requires { ⌜ m ≤ length (now parents) ⌝ }
+    requires { ⌜ Descending (at (now parents)) n m (now s) ⌝ }
+    ensures { λ _. ⌜ Descended (at (now (parents .entry))) m (now (s .entry)) (now (s .exit)) ⌝ }
+{
+    link(parents, m, s);
+    let mut v = m;
+    while n < v {
+        v -= 1;
+        split_group(s, m, v);
+    }
+}

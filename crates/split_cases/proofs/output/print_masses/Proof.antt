@@ -1,0 +1,52 @@
+-- `split_cases::output::print_masses` is safe and ends: the index stays within the masses.
+use Prim.Native.Nat.{_≤_, _-_}
+use native.Mathlib.Omega.{arith}
+use borrow.Author.Needs.{needs}
+use lib.ListN.{length}
+use Rattle.split_cases.proofs.output.print_masses.Statement.{statement}
+use Rattle.split_cases.proofs.output.print_masses.Tie as tie
+
+abbrev Inv-loop : tie.InvT-loop
+Inv-loop xs i₀ i = i ≤ length xs
+
+abbrev μ-loop : tie.MeasureT-loop
+μ-loop xs i₀ i = length xs - i
+
+loop-holds : tie.Need-loop-holds Inv-loop μ-loop
+loop-holds c = omega arith
+
+mul-print-mass : tie.Need-mul-print-mass Inv-loop μ-loop
+mul-print-mass c = search needs
+
+shared-slice-copy-out-print-mass : tie.Need-shared-slice-copy-out-print-mass Inv-loop μ-loop
+shared-slice-copy-out-print-mass c = omega arith
+
+print-mass-requires : tie.Need-print-mass-requires Inv-loop μ-loop
+print-mass-requires c κs = search needs
+
+add-i : tie.Need-add-i Inv-loop μ-loop
+add-i c = omega arith
+
+loop-less : tie.Need-loop-less Inv-loop μ-loop
+loop-less c = omega arith
+
+loop-again : tie.Need-loop-again Inv-loop μ-loop
+loop-again c = omega arith
+
+returns : tie.Need-returns Inv-loop μ-loop
+returns c = search needs
+
+pub print-masses-spec : {M : Type 1} → statement M
+print-masses-spec =
+    tie.close
+    (tie.spec
+    Inv-loop
+    μ-loop
+    loop-holds
+    mul-print-mass
+    shared-slice-copy-out-print-mass
+    print-mass-requires
+    add-i
+    loop-less
+    loop-again
+    returns)
