@@ -1,2 +1,3 @@
 -- The passes over a whole tree; their laws are in proofs/.
+pub mod Gather
 pub mod Descent

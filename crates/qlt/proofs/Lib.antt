@@ -4,3 +4,5 @@ pub mod MassLaws
 pub mod FieldLaws
 pub mod MissLaws
 pub mod FactLaws
+pub mod CheckLaws
+pub mod OperationLaws

@@ -32,12 +32,12 @@ unfoldable pub checkTree : ℕ → List ℕ → Checked
 checkTree n parents = firstFrom (nodeOk (at parents) n (length parents)) 4 0 (length parents)
 
 -- 5: crossed bounds, first cell
-unfoldable pub inOrder : (safeLow low high safeHigh : ℕ) → Bool
-inOrder safeLow low high safeHigh = leb safeLow low && (leb low high && leb high safeHigh)
+unfoldable pub boundsOrdered : (safeLow low high safeHigh : ℕ) → Bool
+boundsOrdered safeLow low high safeHigh = leb safeLow low && (leb low high && leb high safeHigh)
 
 unfoldable pub checkOrder : ℕ → (lows highs safeLows safeHighs : List ℕ) → Checked
 checkOrder n lows highs safeLows safeHighs =
-    firstFrom (λ c. inOrder (at safeLows c) (at lows c) (at highs c) (at safeHighs c)) 5 0 n
+    firstFrom (λ c. boundsOrdered (at safeLows c) (at lows c) (at highs c) (at safeHighs c)) 5 0 n
 
 -- 6 and 7: a list that adds up to over 2147483647
 unfoldable pub checkSum : ℕ → List ℕ → Checked

@@ -14,7 +14,7 @@ use Rattle.qlt.specs.declared.Repair.{Repair}
 use Rattle.qlt.specs.Tree.{leads, childOf, anyChild, nodeSum, parentOk, nodeOk, massFrom, massAt}
 use Rattle.qlt.specs.Field.{lists, field, outcome, number, lowIn, highIn, changeOf}
 use Rattle.qlt.specs.Masses.{groupOf, treeMass, treeMasses}
-use Rattle.qlt.specs.Checks.{checkNodes, checkLists, checkTree, inOrder, checkOrder, checkSum, checkReach, shapeChecks, valueChecks}
+use Rattle.qlt.specs.Checks.{checkNodes, checkLists, checkTree, boundsOrdered, checkOrder, checkSum, checkReach, shapeChecks, valueChecks}
 use Rattle.qlt.specs.Operation.{Call, call, verdict, repair}
 
 -- a call, what it tells, and the masses that it leaves
@@ -57,5 +57,5 @@ got r =
 
 -- what the definitions give is what 01 says, in every row
 pub examples : map got rows ≡ rows
-unfolding sumTo listTo minℤ maxℤ quota firstFrom checkCount clip clipped deficit capacity portion firstShare remainder left secondShare shares result leads childOf anyChild nodeSum parentOk nodeOk massFrom massAt outcome number lowIn highIn changeOf groupOf treeMass treeMasses checkNodes checkLists checkTree inOrder checkOrder checkSum checkReach shapeChecks valueChecks verdict repair
+unfolding sumTo listTo minℤ maxℤ quota firstFrom checkCount clip clipped deficit capacity portion firstShare remainder left secondShare shares result leads childOf anyChild nodeSum parentOk nodeOk massFrom massAt outcome number lowIn highIn changeOf groupOf treeMass treeMasses checkNodes checkLists checkTree boundsOrdered checkOrder checkSum checkReach shapeChecks valueChecks verdict repair
 examples = refl

@@ -6,19 +6,13 @@ ghost use Rattle.numbers.specs.Lists.{at};
 ghost use Rattle.columns.specs.Columns.{width, FIRST, num};
 ghost use Rattle.qlt.specs.Tree.{Valid};
 ghost use Rattle.passes.specs.Descent.{Linked, SameData, Descending, Descended};
+use crate::load::wide;
 use numbers::inner::stored_index;
 use walks::inner::FIRST;
 use walks::inner::NEXT;
 use walks::inner::get;
 use walks::inner::put;
 use walks::inner::split_group;
-
-// A parent as an index.
-fn wide(x: u32) -> usize
-    ensures { λ r. ⌜ r ≡ x ⌝ }
-{
-    x as usize
-}
 
 // Chains each node's children in rising number: FIRST is its first child, NEXT a child's next sibling, m is none.
 pub fn link(parents: &[u32], m: usize, s: &mut [i64])

@@ -1,0 +1,2 @@
+-- Laws for the checks in code.
+pub mod CodeLaws

@@ -1,0 +1,2 @@
+-- What the functions of the checks ask and leave.
+pub mod Lists

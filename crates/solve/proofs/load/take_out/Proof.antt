@@ -1,0 +1,81 @@
+-- `solve::load::take_out` meets its contract: the masses of the rows passed are written over the list.
+use mathlib.Core.Path.{_≡_, refl, sym, _∙_, ap, ap₂}
+use mathlib.Core.List.{List}
+use Prim.Native.Nat.{ℕ, _-_, _≤_}
+use native.Mathlib.Nat.{zero-add}
+use native.Mathlib.Omega.{arith}
+use lib.ListN.{length, set, length-set}
+use Rattle.numbers.specs.Lists.{listTo, written}
+use Rattle.numbers.proofs.ListLaws.{written-none, written-next, written-all}
+use Rattle.columns.specs.Columns.{MASS, num}
+use Rattle.columns.proofs.ColumnLaws.{in-row}
+use borrow.Author.Needs.{needs}
+use Rattle.solve.proofs.load.take_out.Statement.{statement}
+use Rattle.solve.proofs.load.take_out.Tie as tie
+
+abbrev Inv-loop : tie.InvT-loop
+Inv-loop s masses₀ c₀ masses c = (c ≤ length masses₀) × (length masses ≡ length masses₀) × (masses ≡ written masses₀ 0 (listTo c (λ w. num MASS s w)))
+
+abbrev μ-loop : tie.MeasureT-loop
+μ-loop s masses₀ c₀ masses c = length masses₀ - c
+
+loop-holds : tie.Need-loop-holds Inv-loop μ-loop
+loop-holds c = (omega arith, refl, written-none _ 0 _)
+
+get-requires : tie.Need-get-requires Inv-loop μ-loop
+get-requires c κs = in-row _ (length (c .before .before .before .args .masses .now)) _ _ (omega arith) (omega arith) (c .before .before .before .pre .0)
+
+narrow-requires : tie.Need-narrow-requires Inv-loop μ-loop
+narrow-requires c κs = omega (arith, c .get .ensures .0, c .before .before .before .before .pre .1 (c .before .before .loop .c) (omega arith))
+
+mul-masses : tie.Need-mul-masses Inv-loop μ-loop
+mul-masses c = search needs
+
+slice-write-masses : tie.Need-slice-write-masses Inv-loop μ-loop
+slice-write-masses c = search needs
+
+add-c : tie.Need-add-c Inv-loop μ-loop
+add-c c = search needs
+
+loop-less : tie.Need-loop-less Inv-loop μ-loop
+loop-less c = search needs
+
+loop-again : tie.Need-loop-again Inv-loop μ-loop
+loop-again c =
+    let w = c .before .before .before .loop in
+    let old = c .before .before .before .before .before .args .masses .now in
+    let f : ℕ → ℕ = λ i. num MASS (c .before .before .before .before .before .args .s .now) i in (
+      omega arith,
+      length-set (w .masses) (w .c) (c .narrow .result) ∙ w .inv .1,
+      ap₂ (λ (l : List ℕ) (x : ℕ). set l (w .c) x) (w .inv .2) (c .narrow .ensures ∙ c .before .get .ensures .0)
+          ∙ ap (λ i. set (written old 0 (listTo (w .c) f)) i (f (w .c))) (sym (zero-add (w .c)))
+          ∙ written-next old 0 f (w .c) (omega arith),
+    )
+
+same-length : tie.Need-same-length Inv-loop μ-loop
+same-length c = search needs
+
+returns : tie.Need-returns Inv-loop μ-loop
+returns c =
+    let old = c .before .before .before .args .masses .now in
+    let e : c .before .loop .c ≡ length old = omega arith in
+    c .before .loop .inv .2
+    ∙ ap (λ k. written old 0 (listTo k (λ w. num MASS (c .before .before .before .args .s .now) w))) e
+    ∙ written-all old _ (length old) refl
+
+pub take-out-spec : {M : Type 1} → statement M
+take-out-spec =
+    tie.close
+    (tie.spec
+    Inv-loop
+    μ-loop
+    loop-holds
+    get-requires
+    narrow-requires
+    mul-masses
+    slice-write-masses
+    add-c
+    loop-less
+    loop-again
+    same-length
+    returns)
