@@ -23,7 +23,8 @@ pub fn link(parents: &[u32], m: usize, s: &mut [i64])
     ensures { λ _. ⌜ Linked (at (now (parents .entry))) m 0 (now (s .exit)) ⌝ }
     ensures { λ _. ⌜ SameData m (now (s .entry)) (now (s .exit)) ⌝ }
 {
-    let mut u = m - 1;
+    let root = m - 1;
+    let mut u = root;
     while 0 < u {
         u -= 1;
         let parent = wide(parents[u]);

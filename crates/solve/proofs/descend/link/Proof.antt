@@ -14,10 +14,10 @@ use Rattle.solve.proofs.descend.link.Statement.{statement}
 use Rattle.solve.proofs.descend.link.Tie as tie
 
 abbrev Inv-loop : tie.InvT-loop
-Inv-loop parents m s₀ u₀ s u = LinkState (at parents) m s₀ u s
+Inv-loop parents m s₀ root u₀ s u = LinkState (at parents) m s₀ u s
 
 abbrev μ-loop : tie.MeasureT-loop
-μ-loop parents m s₀ u₀ s u = u
+μ-loop parents m s₀ root u₀ s u = u
 
 -- where a turn begins, and where the function does
 abbrev turn : (c : tie.After-wide Inv-loop μ-loop) → tie.In-loop Inv-loop μ-loop
@@ -32,14 +32,14 @@ row c e =
     let t = turn c in
     parent-row (start t .pre .0) (start t .pre .1 .1 .0) (t .before .loop .inv) (t .loop-test .taken) (c .wide .ensures) e
 
-sub-u : tie.Need-sub-u Inv-loop μ-loop
-sub-u c = omega (arith, c .before .pre .0 .some, c .before .pre .0 .room)
+sub-root : tie.Need-sub-root Inv-loop μ-loop
+sub-root c = omega (arith, c .before .pre .0 .some, c .before .pre .0 .room)
 
 loop-holds : tie.Need-loop-holds Inv-loop μ-loop
 loop-holds c = link-start (c .before .pre .0) _ (c .before .pre .1 .1 .1)
 
-sub-u-2 : tie.Need-sub-u-2 Inv-loop μ-loop
-sub-u-2 c = search needs
+sub-u : tie.Need-sub-u Inv-loop μ-loop
+sub-u c = search needs
 
 mul-wide : tie.Need-mul-wide Inv-loop μ-loop
 mul-wide c = search needs
@@ -92,9 +92,9 @@ link-spec =
     (tie.spec
     Inv-loop
     μ-loop
-    sub-u
+    sub-root
     loop-holds
-    sub-u-2
+    sub-u
     mul-wide
     shared-slice-read-wide
     wide-requires

@@ -1,0 +1,6 @@
+-- The laws of Open, Step and runs, and the theorem about every run (demand 3).
+pub mod RunLaws
+pub mod OpenLaws
+pub mod StepLaws
+pub mod Demand3
+pub mod ExampleLaws
