@@ -3,3 +3,4 @@ pub mod UpLaws
 pub mod GatherLaws
 pub mod LinkLaws
 pub mod DescentLaws
+pub mod SolveLaws

@@ -1,3 +1,4 @@
 -- The passes over a whole tree; their laws are in proofs/.
 pub mod Gather
 pub mod Descent
+pub mod Solve

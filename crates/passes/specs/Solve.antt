@@ -1,0 +1,73 @@
+-- The masses of a whole tree by the bounds that are in force, given as lists: what solving needs, what it leaves, and the columns
+-- before the root's mass is split. Assumes nothing.
+use mathlib.Core.Path.{_≡_}
+use mathlib.Core.List.{List}
+use Prim.Native.Nat.{ℕ, _-_, _*_, _^_, _≤_, _<_}
+use lib.IntN.{ℤ, pos, natAbs, _-ℤ_}
+use lib.ListN.{length}
+use Rattle.numbers.specs.Sums.{ℕ-adds, ℤ-adds, sumTo}
+use Rattle.numbers.specs.Lists.{at, atℤ, listTo}
+use Rattle.caas.specs.Group.{Group}
+use Rattle.caas.specs.Split.{result}
+use Rattle.columns.specs.Columns.{width, MASS, LOW, HIGH, WEIGHT, FIRST, col, num}
+use Rattle.qlt.specs.Tree.{childOf, nodeSum, massAt, Valid}
+use Rattle.qlt.specs.Operation.{cleared}
+
+module _ (parents : List ℕ) (targets : List ℤ) where
+  -- a node's sum over its cells, in ℕ
+  abbrev pub nodeOf : List ℕ → ℕ → ℕ
+  nodeOf xs = nodeSum ℕ-adds (at parents) (length targets) (length parents) (at xs)
+
+  -- and that of its targets
+  abbrev pub targetOf : ℕ → ℤ
+  targetOf = nodeSum ℤ-adds (at parents) (length targets) (length parents) (atℤ targets)
+
+module _ (parents : List ℕ) (targets : List ℤ) (lows highs weights : List ℕ) where
+  -- a node's children, with the sums over their cells
+  abbrev pub nodeGroup : ℕ → Group
+  nodeGroup v =
+      record {
+        size = length parents;
+        has = λ u. childOf (at parents) u v;
+        target = targetOf parents targets;
+        low = nodeOf parents targets lows;
+        high = nodeOf parents targets highs;
+        weight = nodeOf parents targets weights;
+      }
+
+  -- a node's mass, where the root has M
+  unfoldable pub massOf : ℕ → ℕ → ℕ
+  massOf M = massAt (at parents) (length parents) (λ v. result (nodeGroup v)) M
+
+  -- what solving needs: a tree without a fault, lists of one length, room in the scratch, bounds in order and sums that fit, and a total
+  -- within the bounds
+  pub record Solvable (M : ℕ) (s : List ℤ) : Type 0 where
+    pub valid : Valid (at parents) (length targets) (length parents)
+    pub few : length targets ≤ 512
+    pub nodes-few : length parents ≤ 1024
+    pub lows-long : length lows ≡ length targets
+    pub highs-long : length highs ≡ length targets
+    pub weights-long : length weights ≡ length targets
+    pub size : width * length parents ≤ length s
+    pub order : (c : ℕ) → c < length targets → at lows c ≤ at highs c
+    pub small : sumTo ℕ-adds (length targets) (at highs) < 2 ^ 31
+    pub light : sumTo ℕ-adds (length targets) (at weights) < 2 ^ 31
+    pub least : sumTo ℕ-adds (length targets) (at lows) ≤ M
+    pub most : M ≤ sumTo ℕ-adds (length targets) (at highs)
+
+  -- the columns before the root's mass is split: sums over the cells, but M at the root; no node has a first child yet
+  pub record Prepared (M : ℕ) (old s : List ℤ) : Type 0 where
+    pub long : length s ≡ length old
+    pub far : (i : ℕ) → width * length parents ≤ i → atℤ s i ≡ atℤ old i
+    pub root : col MASS s (length parents - 1) ≡ pos M
+    pub target : (u : ℕ) → u < length parents - 1 → col MASS s u ≡ targetOf parents targets u
+    pub low : (u : ℕ) → u < length parents → num LOW s u ≡ nodeOf parents targets lows u
+    pub high : (u : ℕ) → u < length parents → num HIGH s u ≡ nodeOf parents targets highs u
+    pub weight : (u : ℕ) → u < length parents → num WEIGHT s u ≡ nodeOf parents targets weights u
+    pub first : (u : ℕ) → u < length parents → num FIRST s u ≡ length parents
+
+  -- what solving leaves: the cells' masses, the scratch cleared; and the change that it gives
+  pub record Solved (M : ℕ) (old s : List ℤ) (masses : List ℕ) (change : ℕ) : Type 0 where
+    pub gives : masses ≡ listTo (length targets) (massOf M)
+    pub moves : change ≡ sumTo ℕ-adds (length targets) (λ c. natAbs (pos (massOf M c) -ℤ atℤ targets c))
+    pub leaves : s ≡ cleared (width * length parents) old

@@ -1,0 +1,54 @@
+-- `reconstruct::rebuild::reconstruct_by` meets its contract: a verdict that fails is refused, and one that passes fits and is repaired.
+use mathlib.Core.Path.{_≡_, sym, _∙_}
+use Rattle.numbers.specs.declared.Checked.the-variants.{Pass}
+use Rattle.qlt.specs.Field.{lists}
+use Rattle.qlt.specs.Operation.{Call, call, verdict}
+use Rattle.qlt.proofs.OperationLaws.{accepts}
+use Rattle.reconstruct.proofs.RebuildLaws.{contract-refused, contract-done}
+use borrow.Author.Needs.{needs}
+use Rattle.reconstruct.proofs.inner.reconstruct_by.Statement.{statement}
+use Rattle.reconstruct.proofs.inner.reconstruct_by.Tie as tie
+
+abbrev given : tie.Start → Call
+given c =
+    let a = c .args in
+    call (lists (a .targets .now) (a .lows .now) (a .highs .now) (a .safe-lows .now) (a .safe-highs .now) (a .weights .now) (a .parents .now))
+    (a .total) (a .masses .now) (a .scratch .now)
+
+passed : (c : tie.After-enum-told) → Pass ≡ verdict (given (c .before .before .before .before .before .before .before .before .before))
+passed c = sym (c .enum-told .given .1) ∙ c .before .before .before .before .before .before .before .before .before .pre
+
+enum-known-verdict : tie.Need-enum-known-verdict
+enum-known-verdict c = search needs
+
+returns : tie.Need-returns
+returns c = let s = c .before .before .before .before .before .before .before .before .before .before in contract-refused (given s) (sym (c .before .verdict .given .1) ∙ s .pre)
+
+enum-told : tie.Need-enum-told
+enum-told c = search needs
+
+repaired-requires : tie.Need-repaired-requires
+repaired-requires c κs = accepts (given (c .before .before .before .before .before .before .before .before .before .before .before)) .0 (sym (passed (c .before .before)))
+
+same-length : tie.Need-same-length
+same-length c = search needs
+
+same-length-2 : tie.Need-same-length-2
+same-length-2 c = search needs
+
+returns-2 : tie.Need-returns-2
+returns-2 c =
+    let s = c .before .before .before .before .before .before .before .before .before .before .before .before .before .before .before in
+    contract-done (given s) (passed (c .before .before .before .before .before .before)) (c .before .before .before .repaired .ensures)
+
+pub reconstruct-by-spec : {M : Type 1} → statement M
+reconstruct-by-spec =
+    tie.close
+    (tie.spec
+    enum-known-verdict
+    returns
+    enum-told
+    repaired-requires
+    same-length
+    same-length-2
+    returns-2)

@@ -1,0 +1,39 @@
+// All of Reconstruct's checks. Relies on `checks`.
+ghost use mathlib.Core.Path.{_≡_};
+ghost use Rattle.qlt.specs.Field.{lists};
+ghost use Rattle.qlt.specs.Operation.{call, verdict};
+use checks::inner::check_reach;
+use checks::inner::field_checks;
+use numbers::Checked;
+
+// The checks 1 to 8, in 01's order.
+pub fn verdict(
+    targets: &[i32],
+    lows: &[u32],
+    highs: &[u32],
+    safe_lows: &[u32],
+    safe_highs: &[u32],
+    weights: &[u32],
+    parents: &[u32],
+    total: u32,
+    masses: &[u32],
+    scratch: &[i64],
+) -> Checked
+    ensures { λ r. ⌜ r ≡ verdict (call (lists (now (targets .entry)) (now (lows .entry)) (now (highs .entry)) (now («safe_lows» .entry)) (now («safe_highs» .entry)) (now (weights .entry)) (now (parents .entry))) total (now (masses .entry)) (now (scratch .entry))) ⌝ }
+{
+    let field = field_checks(
+        masses.len(),
+        targets,
+        lows,
+        highs,
+        safe_lows,
+        safe_highs,
+        weights,
+        parents,
+        scratch.len(),
+    );
+    if let Checked::Fail { number, place } = field {
+        return Checked::Fail { number, place };
+    }
+    check_reach(safe_lows, safe_highs, total)
+}
