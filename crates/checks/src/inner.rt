@@ -12,14 +12,12 @@ ghost use Rattle.qlt.specs.Tree.{childOf, parentOk};
 ghost use Rattle.qlt.specs.Field.{lists, number};
 ghost use Rattle.qlt.specs.Checks.{sum, checkNodes, checkLists, checkTree, boundsOrdered, checkOrder, checkSum, checkReach, shapeChecks, shapeOf, valueChecks};
 ghost use Rattle.checks.specs.Lists.{Marks, Sized, outcomeBy};
+use columns::WIDTH;
 use numbers::Checked;
 use numbers::inner::check_count;
 use numbers::inner::check_length;
 use numbers::inner::fail_at;
 use numbers::inner::then;
-
-// The numbers of the scratch that a row takes.
-const WIDTH: usize = 6;
 
 // An element of a list, with room to add up.
 fn value_at(xs: &[u32], i: usize) -> u64

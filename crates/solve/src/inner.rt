@@ -10,6 +10,7 @@ use crate::load::fill_with;
 use crate::load::load;
 use crate::load::load_targets;
 use crate::load::take_out;
+use columns::WIDTH;
 use numbers::inner::stored_index;
 use walks::inner::FIRST;
 use walks::inner::HIGH;
@@ -17,9 +18,6 @@ use walks::inner::LOW;
 use walks::inner::MASS;
 use walks::inner::WEIGHT;
 use walks::inner::put;
-
-// The numbers of the scratch that a row takes.
-const WIDTH: usize = 6;
 
 // The columns of all nodes before the splits: sums over their cells, no first child yet, and the root's mass.
 fn prepare(

@@ -6,10 +6,10 @@ ghost use lib.IntN.{pos};
 ghost use Rattle.caas.specs.Split.{clip, room, moved};
 ghost use Rattle.columns.specs.Columns.{MASS, LOW, HIGH, col, num, InRow, Stored};
 ghost use Rattle.columns.specs.Walks.{roomIn, either, Clipping, Clipped, Sharing, Shared, Splitting, SplitDone};
+use columns::WIDTH;
 
-// The numbers of the scratch that a row takes, and the columns of a row: a node's target, later its mass; its low and high in force;
+// The columns of a row: a node's target, later its mass; its low and high in force;
 // its weight; its first child; its next sibling.
-const WIDTH: usize = 6;
 
 pub const MASS: usize = 0;
 
