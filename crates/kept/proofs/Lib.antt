@@ -1,0 +1,2 @@
+-- Laws for the operations' own functions.
+pub mod TotalLaws

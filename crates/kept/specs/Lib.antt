@@ -1,0 +1,2 @@
+-- What the functions below the operations check.
+pub mod Totals

@@ -1,0 +1,64 @@
+// The operations Open and Step on a kept field. Public: `open`, `step`; the checks and the work below them are in modules of their own,
+// for this crate alone. What holds of every run of these calls is proved in `account` (demand 3).
+// Relies on `reconstruct`, `checks`, `account`, `qlt`, `columns`, `caas` and `numbers`.
+ghost use Rattle.account.specs.Open.{OpenContract};
+ghost use Rattle.account.specs.Step.{stepCall, StepContract};
+ghost use Rattle.qlt.specs.Field.{lists};
+use account::Opened;
+use account::Stepped;
+
+mod verdicts;
+mod work;
+
+// Adds up n kept masses and returns the total.
+pub fn open(kept: &[u32]) -> Opened
+    ensures { λ r. ⌜ OpenContract (now (kept .entry)) r ⌝ }
+{
+    let verdict = verdicts::open_verdict(kept);
+    work::open_by(verdict, kept)
+}
+
+// Steps a kept field: M is the total plus the source; the masses of the new field for M replace the kept ones. A refused call writes nothing.
+pub fn step(
+    total: u32,
+    kept: &mut [u32],
+    source: i32,
+    targets: &[i32],
+    lows: &[u32],
+    highs: &[u32],
+    safe_lows: &[u32],
+    safe_highs: &[u32],
+    weights: &[u32],
+    parents: &[u32],
+    scratch: &mut [i64],
+) -> Stepped
+    ensures { λ r. ⌜ StepContract (stepCall total (now (kept .entry)) source (lists (now (targets .entry)) (now (lows .entry)) (now (highs .entry)) (now («safe_lows» .entry)) (now («safe_highs» .entry)) (now (weights .entry)) (now (parents .entry))) (now (scratch .entry))) r (now (kept .exit)) (now (scratch .exit)) ⌝ }
+{
+    let verdict = verdicts::step_verdict(
+        total,
+        kept,
+        source,
+        targets,
+        lows,
+        highs,
+        safe_lows,
+        safe_highs,
+        weights,
+        parents,
+        scratch,
+    );
+    work::step_by(
+        verdict,
+        total,
+        kept,
+        source,
+        targets,
+        lows,
+        highs,
+        safe_lows,
+        safe_highs,
+        weights,
+        parents,
+        scratch,
+    )
+}
