@@ -1,0 +1,2 @@
+-- What the contracts of the test program cite.
+pub mod Cases
