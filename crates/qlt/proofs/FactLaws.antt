@@ -5,7 +5,7 @@ use mathlib.Core.Logic.{_↔_}
 use mathlib.Core.Bool.{true}
 use Prim.Native.Nat.{ℕ, _-_, _≤_, _<_}
 use native.Mathlib.Omega.{arith}
-use lib.IntN.{ℤ, pos}
+use lib.IntN.{ℤ, pos, natAbs, _-ℤ_}
 use Rattle.numbers.specs.Sums.{ℕ-adds, ℤ-adds, sumTo}
 use Rattle.numbers.specs.Lists.{at}
 use Rattle.numbers.proofs.SumLaws.{sumTo-ext, sumTo-pos}
@@ -15,7 +15,7 @@ use Rattle.caas.specs.Split.{result, Proportional}
 use Rattle.caas.proofs.GroupLaws.{in-none, in-pos}
 use Rattle.caas.proofs.SplitLaws.{nat-within, result-adds, result-within, result-nearest, distance-ext, result-proportional}
 use Rattle.qlt.specs.Tree.{childOf, Valid}
-use Rattle.qlt.specs.Field.{Field, Outcome, Ordered, outcome, lowIn, highIn, Meets, sumCells}
+use Rattle.qlt.specs.Field.{Field, Outcome, Ordered, outcome, lowIn, highIn, Meets, changeOf, sumCells}
 use Rattle.qlt.specs.Masses.{groupOf, treeMass, treeMasses}
 use Rattle.qlt.specs.Facts.{FieldFacts}
 use Rattle.qlt.proofs.TreeLaws.{nodeSum-inner, nodeSum-cell, nodeSum-ext}
@@ -54,6 +54,11 @@ module _ (F : Field) (M : ℕ) where
   pub list-at : (c : ℕ) → c < F .n → listMass c ≡ treeMass F M c
   unfolding treeMasses
   list-at c l = getD-listTo (F .n) (treeMass F M) c 0 l
+
+  -- so the change is that of the list
+  change-list : changeOf F (treeMass F M) ≡ changeOf F listMass
+  unfolding changeOf
+  change-list = sumTo-ext ℕ-adds (F .n) _ _ (λ c l. ap (λ x. natAbs (pos x -ℤ F .target c)) (sym (list-at c l)))
 
   -- ---- the nodes' masses, from the root down
 
@@ -223,5 +228,6 @@ module _ (F : Field) (ok : Valid (F .up) (F .n) (F .m)) (ordered : (c : ℕ) →
         least = least-of F ordered M (listMass F M) (cell-in M least most) (list-sum M least most);
         nearest = nearest-list M least most;
         reachable = reachable-sums M;
+        change = change-list F M;
         proportional = proportional-list M least most;
       }

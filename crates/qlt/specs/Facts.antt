@@ -10,7 +10,7 @@ use Rattle.numbers.specs.Lists.{at}
 use Rattle.caas.specs.Group.{Group, Each, Divides, distance}
 use Rattle.caas.specs.Split.{result, Proportional}
 use Rattle.qlt.specs.Tree.{nodeSum}
-use Rattle.qlt.specs.Field.{Field, outcome, Meets, missOf, sumCells}
+use Rattle.qlt.specs.Field.{Field, outcome, Meets, missOf, changeOf, sumCells}
 use Rattle.qlt.specs.Masses.{groupOf, treeMass, treeMasses}
 
 module _ (F : Field) (M : ℕ) (x : List ℕ) where
@@ -47,6 +47,8 @@ module _ (F : Field) (M : ℕ) (x : List ℕ) where
     pub nearest : AtInner (λ v. (y : ℕ → ℤ) → Divides (children v) (nodeMass v) y → distance (children v) (λ u. pos (nodeMass u)) ≤ distance (children v) y)
     -- C8: some masses within the safety bounds have the total exactly if it lies between their sums
     pub reachable : ((y : ℕ → ℤ) × Meets (F .n) (F .safeLow) (F .safeHigh) (pos M) y) ↔ ((sumCells F (F .safeLow) ≤ M) × (M ≤ sumCells F (F .safeHigh)))
+    -- C9: the change that is told is the sum over cells of the absolute mass minus target, of these very masses
+    pub change : changeOf F (treeMass F M) ≡ changeOf F (at x)
     -- C11: where the children have no weight, each share is less than one unit from the published proportion
     pub proportional :
         AtInner (λ v. Each (children v) (λ u. children v .weight u ≡ 0) → Each (children v) (λ u. Proportional (children v) (nodeMass v) (pos (nodeMass u)) u))

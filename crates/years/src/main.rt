@@ -45,7 +45,7 @@ fn given_source(drawn: u32, fault: u32) -> i32
     if fault == 5 {
         return 2000000;
     }
-    less(drawn, 300)
+    less(drawn, 1500)
 }
 
 // The run after an accepted call.
@@ -128,7 +128,7 @@ fn one_call(run: Run, kept: &mut [u32; 8]) -> Run {
         &mut safe_highs,
         &mut weights,
     );
-    let source = draw(state, 601);
+    let source = draw(state, 3001);
     let fault = draw(source.state, 8);
     fields::cross(fault.value, &mut lows, &mut highs);
     let mut parents = [0u32; 15];
