@@ -7,7 +7,7 @@ use native.Mathlib.Nat.{add-zero}
 use lib.IntN.{pos}
 use Rattle.numbers.specs.Sums.{Adds, ℕ-adds, ℤ-adds, pick}
 use Rattle.numbers.specs.Signed.{gap}
-use Rattle.numbers.proofs.SumLaws.{sumTo-next, sumTo-ext, sumTo-none, sumTo-plus, sumTo-le, sumTo-grows, sumTo-pos, pick-ext, pick-plus, pick-le, pick-pos, gap-sum}
+use Rattle.numbers.proofs.SumLaws.{sumTo-next, sumTo-ext, sumTo-none, sumTo-plus, sumTo-le, sumTo-grows, sumTo-pos, pick-ext, pick-skip, pick-plus, pick-le, pick-pos, gap-sum}
 use Rattle.caas.specs.Group.{Group, Each, sumBefore, sumIn}
 
 module _ (G : Group) where
@@ -16,11 +16,7 @@ module _ (G : Group) where
   in-ext A f g h = sumTo-ext A (G .size) _ _ (λ u l. pick-ext A (G .has u) _ _ (h u l))
 
   pub in-none : (f : ℕ → ℕ) → Each G (λ u. f u ≡ 0) → sumIn ℕ-adds G f ≡ 0
-  in-none f h = sumTo-none ℕ-adds (G .size) _ (λ u l. one (G .has u) (f u) (h u l))
-    where
-      one : (b : Bool) (x : ℕ) → (b ≡ true → x ≡ 0) → pick ℕ-adds b x ≡ 0
-      one true x e = e refl
-      one false x e = refl
+  in-none f h = sumTo-none ℕ-adds (G .size) _ (λ u l. pick-skip ℕ-adds (G .has u) (f u) (h u l))
 
   pub in-le : (f g : ℕ → ℕ) → Each G (λ u. f u ≤ g u) → sumIn ℕ-adds G f ≤ sumIn ℕ-adds G g
   in-le f g h = sumTo-le (G .size) _ _ (λ u l. pick-le (G .has u) _ _ (h u l))

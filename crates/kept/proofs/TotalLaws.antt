@@ -7,7 +7,8 @@ use lib.IntN.{ℤ, pos, _+ℤ_}
 use lib.Signed.{_≤ℤ_}
 use lib.ListN.{length}
 use mir.Syntax.{w32, w64}
-use mir.Val.{SFits}
+use mir.Val.{SFits, toZ, ofZ}
+use mir.ValLaws.{toZ-ofZ}
 use Rattle.numbers.specs.declared.Checked.the-variants.{Pass, Fail}
 use Rattle.numbers.specs.Checks.{accepted, answered, after, both, maxTotal}
 use Rattle.numbers.proofs.SignedLaws.{signed, about, add-parts, parts-le}
@@ -25,6 +26,11 @@ use Rattle.kept.specs.Totals.{totalChecks, StepRepaired}
 
 pub next-fits : (t : ℕ) (z : ℤ) → t < 2 ^ 32 → SFits w32 z → SFits w64 (pos t +ℤ z)
 next-fits t z h f = omega (signed, add-parts (pos t) z, about z, about (pos t +ℤ z), f .sfits)
+
+-- and is read back as it was added up
+pub next-read : (t : ℕ) (z r : ℤ) → t < 2 ^ 32 → SFits w32 z → r ≡ pos t +ℤ toZ w32 (ofZ w32 z) → toZ w64 (ofZ w64 r) ≡ pos t +ℤ z
+next-read t z r h f e =
+    ap (λ (x : ℤ). toZ w64 (ofZ w64 x)) (e ∙ ap (λ (x : ℤ). pos t +ℤ x) (toZ-ofZ w32 z f)) ∙ toZ-ofZ w64 (pos t +ℤ z) (next-fits t z h f)
 
 -- the checks of the field, then those of the new total
 pub step-chain : (c : StepCall) → both (both (shapeOf (length (c .kept)) (c .lists) (length (c .scratch))) (valueChecks (c .lists))) (totalChecks (c .total) (c .kept) (c .source) (c .lists .safeLows) (c .lists .safeHighs)) ≡ stepVerdict c

@@ -21,7 +21,7 @@ step-verdict-requires : tie.Need-step-verdict-requires
 step-verdict-requires c κs = search needs
 
 step-by-requires : tie.Need-step-by-requires
-step-by-requires c κs = search needs
+step-by-requires c κs = c .before .before .step-verdict .ensures
 
 same-length : tie.Need-same-length
 same-length c = search needs

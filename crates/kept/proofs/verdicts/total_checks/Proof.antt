@@ -2,9 +2,8 @@
 use mathlib.Core.Path.{_≡_, sym, _∙_, ap}
 use native.Mathlib.Omega.{arith}
 use lib.IntN.{ℤ, pos, _+ℤ_}
-use mir.Syntax.{w32, w64}
+use mir.Syntax.{w64}
 use mir.Val.{toZ, ofZ}
-use mir.ValLaws.{toZ-ofZ}
 use Rattle.numbers.specs.declared.Checked.the-variants.{Pass}
 use Rattle.numbers.specs.Signed.{over}
 use Rattle.numbers.proofs.CheckLaws.{on, stop, last}
@@ -13,17 +12,14 @@ use Rattle.account.specs.Open.{checkTotal}
 use Rattle.account.specs.Step.{checkKept}
 use Rattle.account.proofs.OpenLaws.{total-decides}
 use Rattle.kept.specs.Totals.{totalChecks}
-use Rattle.kept.proofs.TotalLaws.{next-fits}
+use Rattle.kept.proofs.TotalLaws.{next-read}
 use borrow.Author.Needs.{needs}
 use Rattle.kept.proofs.verdicts.total_checks.Statement.{statement}
 use Rattle.kept.proofs.verdicts.total_checks.Tie as tie
 
 -- the new total, as it is handed on
 next-is : (c : tie.After-add-source) → toZ w64 (ofZ w64 (c .add-source .result)) ≡ pos (c .before .before .before .before .before .before .before .args .total) +ℤ c .before .before .before .before .before .before .before .args .source
-next-is c =
-    let s = c .before .before .before .before .before .before .before in
-    let e : c .add-source .result ≡ pos (s .args .total) +ℤ s .args .source = c .add-source .ensures ∙ ap (λ (z : ℤ). pos (s .args .total) +ℤ z) (toZ-ofZ w32 (s .args .source) (s .fits .source)) in
-    ap (λ (z : ℤ). toZ w64 (ofZ w64 z)) e ∙ toZ-ofZ w64 (pos (s .args .total) +ℤ s .args .source) (next-fits (s .args .total) (s .args .source) (omega arith) (s .fits .source))
+next-is c = let s = c .before .before .before .before .before .before .before in next-read (s .args .total) (s .args .source) _ (omega arith) (s .fits .source) (c .add-source .ensures)
 
 adds : (c : tie.After-enum-told) → checkKept (c .before .before .before .before .before .before .args .kept .now) (c .before .before .before .before .before .before .args .total) ≡ Pass
 adds c = sym (c .before .before .check-kept .ensures) ∙ c .enum-told .given .1

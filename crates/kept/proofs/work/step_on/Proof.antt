@@ -8,7 +8,7 @@ use mir.ValLaws.{toZ-ofZ}
 use Rattle.qlt.specs.Field.{lists}
 use Rattle.numbers.specs.Signed.{over}
 use Rattle.account.specs.Step.{StepCall, stepCall, newTotal}
-use Rattle.kept.proofs.TotalLaws.{next-fits, fits-total, fits-call, repaired-step}
+use Rattle.kept.proofs.TotalLaws.{next-read, fits-total, fits-call, repaired-step}
 use borrow.Author.Needs.{needs}
 use Rattle.kept.proofs.work.step_on.Statement.{statement}
 use Rattle.kept.proofs.work.step_on.Tie as tie
@@ -24,10 +24,7 @@ source-is : (c : tie.Start) → toZ w32 (ofZ w32 (c .args .source)) ≡ c .args 
 source-is c = toZ-ofZ w32 (c .args .source) (c .fits .source)
 
 next-is : (c : tie.After-add-source) → toZ w64 (ofZ w64 (c .add-source .result)) ≡ pos (c .before .before .before .before .before .before .before .before .args .total) +ℤ c .before .before .before .before .before .before .before .before .args .source
-next-is c =
-    let s = c .before .before .before .before .before .before .before .before in
-    ap (λ (z : ℤ). toZ w64 (ofZ w64 z)) (c .add-source .ensures ∙ ap (λ (z : ℤ). pos (s .args .total) +ℤ z) (source-is s))
-    ∙ toZ-ofZ w64 (pos (s .args .total) +ℤ s .args .source) (next-fits (s .args .total) (s .args .source) (omega arith) (s .fits .source))
+next-is c = let s = c .before .before .before .before .before .before .before .before in next-read (s .args .total) (s .args .source) _ (omega arith) (s .fits .source) (c .add-source .ensures)
 
 total-is : (c : tie.After-whole) → c .whole .result ≡ newTotal (given (c .before .before .before .before .before .before .before .before .before))
 total-is c = c .whole .ensures ∙ ap over (next-is (c .before))
