@@ -5,7 +5,7 @@ use Rattle.numbers.specs.Sums.{sumTo}
 use Rattle.numbers.specs.Lists.{listTo, written}
 use Rattle.numbers.specs.Signed.{minℤ, maxℤ}
 use Rattle.numbers.specs.Quota.{quota}
-use Rattle.numbers.specs.Checks.{firstFrom, checkCount}
+use Rattle.numbers.specs.Checks.{eachFrom, firstFrom, checkCount}
 use Rattle.caas.specs.Split.{clip, clipped, deficit, capacity, portion, firstShare, remainder, left, secondShare, shares, result}
 use Rattle.qlt.specs.Tree.{leads, childOf, anyChild, nodeSum, parentOk, nodeOk, massFrom, massAt}
 use Rattle.qlt.specs.Field.{outcome, number, lowIn, highIn, changeOf}
@@ -26,7 +26,7 @@ opens = record { answers = refl }
 
 -- each call gives and leaves what Step's contract promises
 contracts : Promised first × (Promised second × Promised third)
-unfolding sumTo listTo written minℤ maxℤ quota firstFrom checkCount clip clipped deficit capacity portion firstShare remainder left
+unfolding sumTo listTo written minℤ maxℤ quota eachFrom firstFrom checkCount clip clipped deficit capacity portion firstShare remainder left
     secondShare shares result leads childOf anyChild nodeSum parentOk nodeOk massFrom massAt outcome number lowIn highIn changeOf groupOf
     treeMass treeMasses checkNodes checkLists checkTree boundsOrdered checkOrder checkSum checkReach shapeChecks valueChecks repair cleared
     checkTotal checkKept stepVerdict stepTells

@@ -8,7 +8,7 @@ use Rattle.numbers.specs.Sums.{sumTo}
 use Rattle.numbers.specs.Lists.{listTo}
 use Rattle.numbers.specs.Signed.{minℤ, maxℤ}
 use Rattle.numbers.specs.Quota.{quota}
-use Rattle.numbers.specs.Checks.{after, firstFrom, everyFrom, checkCount}
+use Rattle.numbers.specs.Checks.{after, eachFrom, firstFrom, everyFrom, checkCount}
 use Rattle.caas.specs.Split.{clip, clipped, deficit, capacity, portion, firstShare, remainder, left, secondShare, shares, result}
 use Rattle.caas.specs.Operation.{SplitCall, splitCall, checkLengths, checkOrder, checkHighs, checkWeights, checkReach, shapeChecks, valueChecks, splitVerdict, splitMasses}
 
@@ -37,5 +37,5 @@ got r = record { call = r .call; verdict = splitVerdict (r .call); masses = afte
 
 -- what the definitions give is what 01 says, in every row
 pub examples : map got rows ≡ rows
-unfolding sumTo listTo minℤ maxℤ quota firstFrom everyFrom checkCount clip clipped deficit capacity portion firstShare remainder left secondShare shares result checkLengths checkOrder checkHighs checkWeights checkReach shapeChecks valueChecks splitVerdict splitMasses
+unfolding sumTo listTo minℤ maxℤ quota eachFrom firstFrom everyFrom checkCount clip clipped deficit capacity portion firstShare remainder left secondShare shares result checkLengths checkOrder checkHighs checkWeights checkReach shapeChecks valueChecks splitVerdict splitMasses
 examples = refl

@@ -9,7 +9,7 @@ use native.Mathlib.Numerals.{add-one}
 use native.Mathlib.Decide.{ℕ-discrete}
 use Rattle.numbers.specs.declared.Checked.{Checked}
 use Rattle.numbers.specs.declared.Checked.the-variants.{Pass, Fail}
-use Rattle.numbers.specs.Checks.{accepted, refused, answered, unless, both, firstFrom, everyFrom, Rule, Decides, rule, ruleAt, Holds, Broken, inOrder, checkCount}
+use Rattle.numbers.specs.Checks.{accepted, refused, answered, unless, both, eachFrom, firstFrom, everyFrom, Rule, Decides, rule, ruleFor, ruleAt, Holds, Broken, rulesFrom, inOrder, checkCount}
 use Rattle.numbers.proofs.TestLaws.{Tested, holds, fails, tested, clash, and-means, lt-means, le-means, and-first, and-second, and-intro}
 
 -- ---- along a chain: the first passes and the rest decides; the first fails and that is it; the last decides
@@ -55,17 +55,33 @@ no-pass p f = let z : _≡_ {A = ℕ} 0 1 = cc in omega arith
 one-less : (i k : ℕ) → i < k → k - i ≡ suc (k - (i + 1))
 one-less i k h = omega arith
 
-pub first-on : (good : ℕ → Bool) (number i k : ℕ) → i < k → good i ≡ true → firstFrom good number i (k - i) ≡ firstFrom good number (i + 1) (k - (i + 1))
-unfolding firstFrom
-first-on good number i k h e = rw (one-less i k h, e, add-one) refl
+-- a check at each place, in turn
+module _ (check : ℕ → Checked) where
+  pub each-on : (i k : ℕ) → i < k → check i ≡ Pass → eachFrom check i (k - i) ≡ eachFrom check (i + 1) (k - (i + 1))
+  unfolding eachFrom
+  each-on i k h e = rw (one-less i k h, e, add-one) refl
 
-pub first-here : (good : ℕ → Bool) (number i k : ℕ) → i < k → good i ≡ false → firstFrom good number i (k - i) ≡ Fail number i
-unfolding firstFrom
-first-here good number i k h e = rw (one-less i k h, e) refl
+  pub each-here : (i k : ℕ) {number place : ℕ} → i < k → check i ≡ Fail number place → eachFrom check i (k - i) ≡ Fail number place
+  unfolding eachFrom
+  each-here i k h e = rw (one-less i k h, e) refl
 
-pub first-none : (good : ℕ → Bool) (number i k : ℕ) → k ≤ i → firstFrom good number i (k - i) ≡ Pass
-unfolding firstFrom
-first-none good number i k h = let none : k - i ≡ 0 = omega arith in rw none refl
+  pub each-none : (i k : ℕ) → k ≤ i → eachFrom check i (k - i) ≡ Pass
+  unfolding eachFrom
+  each-none i k h = let none : k - i ≡ 0 = omega arith in rw none refl
+
+-- one number, and a test at each place
+module _ (good : ℕ → Bool) (number : ℕ) where
+  pub first-on : (i k : ℕ) → i < k → good i ≡ true → firstFrom good number i (k - i) ≡ firstFrom good number (i + 1) (k - (i + 1))
+  unfolding firstFrom
+  first-on i k h e = each-on (λ j. unless (good j) number j) i k h (ap (λ b. unless b number i) e)
+
+  pub first-here : (i k : ℕ) → i < k → good i ≡ false → firstFrom good number i (k - i) ≡ Fail number i
+  unfolding firstFrom
+  first-here i k h e = each-here (λ j. unless (good j) number j) i k h (ap (λ b. unless b number i) e)
+
+  pub first-none : (i k : ℕ) → k ≤ i → firstFrom good number i (k - i) ≡ Pass
+  unfolding firstFrom
+  first-none i k h = each-none (λ j. unless (good j) number j) i k h
 
 pub every-on : (good : ℕ → Bool) (i k : ℕ) → i < k → good i ≡ true → everyFrom good i (k - i) ≡ everyFrom good (i + 1) (k - (i + 1))
 unfolding everyFrom
@@ -92,17 +108,20 @@ answered-refused (Fail n p) y number place e = cc
 -- ---- what verdicts mean
 
 -- one test
-pub decides-unless : (b : Bool) (number : ℕ) {P : Type 0} → (b ≡ true) ↔ P → Decides (unless b number 0) (rule number P)
-decides-unless true number e =
+pub decides-for : (b : Bool) (number place : ℕ) {P : Type 0} → (b ≡ true) ↔ P → Decides (unless b number place) (ruleFor number place P)
+decides-for true number place e =
     record {
       passes = (λ q. e .0 refl, λ q. refl);
       fails = λ n p. (λ q. absurd (no-pass refl q), λ q. absurd (q .1 (e .0 refl)));
     }
-decides-unless false number e =
+decides-for false number place e =
     record {
       passes = (λ q. absurd (no-pass q refl), λ q. absurd (clash (e .1 q) refl));
       fails = λ n p. (λ q. ((cc, cc), λ h. absurd (clash (e .1 h) refl)), λ q. cc (q .0 .0, q .0 .1));
     }
+
+pub decides-unless : (b : Bool) (number : ℕ) {P : Type 0} → (b ≡ true) ↔ P → Decides (unless b number 0) (rule number P)
+decides-unless b number e = decides-for b number 0 e
 
 -- rules in order
 pub decides-none : Decides Pass (inOrder [])
@@ -162,6 +181,26 @@ decides-append v w rs ss d e = carry (decides-then v w (inOrder rs) ss d e)
           passes = (λ q. holds-append rs ss .1 (x .passes .0 q), λ h. x .passes .1 (holds-append rs ss .0 h));
           fails = λ n p. (λ q. broken-append rs ss n p .1 (x .fails n p .0 q), λ h. x .fails n p .1 (broken-append rs ss n p .0 h));
         })
+
+-- the checks of several places in turn
+module _ (check : ℕ → Checked) where
+  pub decides-each : (rules : ℕ → List Rule) → ((i : ℕ) → Decides (check i) (inOrder (rules i))) → (i k : ℕ) → Decides (eachFrom check i k) (inOrder (rulesFrom rules i k))
+  unfolding eachFrom rulesFrom
+  decides-each rules d i zero = decides-none
+  decides-each rules d i (suc k) = decides-append (check i) (eachFrom check (suc i) k) (rules i) (rulesFrom rules (suc i) k) (d i) (decides-each rules d (suc i) k)
+
+  -- all pass exactly if each does
+  pub each-passes : (i k : ℕ) → (eachFrom check i k ≡ Pass) ↔ ((j : ℕ) → i ≤ j → j < i + k → check j ≡ Pass)
+  unfolding eachFrom
+  each-passes i zero = (λ q j a b. absurd (omega arith), λ h. refl)
+  each-passes i (suc k) = (
+    λ q j a b. go j a b (both-first (check i) _ q) (λ l m. each-passes (suc i) k .0 (both-second (check i) _ q) j l m) (ℕ-discrete i j),
+    λ h. rw (h i (omega arith) (omega arith)) (each-passes (suc i) k .1 (λ j a b. h j (omega arith) (omega arith))),
+  )
+    where
+      go : (j : ℕ) → i ≤ j → j < i + suc k → check i ≡ Pass → (suc i ≤ j → j < suc i + k → check j ≡ Pass) → Dec (i ≡ j) → check j ≡ Pass
+      go j a b p q (yes e) = subst (λ x. check x ≡ Pass) e p
+      go j a b p q (no e) = q (omega arith) (omega arith)
 
 -- every place below k passes its test
 module _ (good : ℕ → Bool) (P : ℕ → Type 0) (e : (i : ℕ) → (good i ≡ true) ↔ P i) where
@@ -232,7 +271,7 @@ module _ (good : ℕ → Bool) (P : ℕ → Type 0) (e : (i : ℕ) → (good i �
             go (no t) = absurd (clash (e i .1 (h .1 .1 i (omega arith) (omega (arith, h .0 .1)))) s)
 
     from-decides : (i k : ℕ) → Decides (firstFrom good number i k) (fromRule i k)
-    unfolding firstFrom
+    unfolding firstFrom eachFrom
     from-decides i zero =
         record {
           passes = (λ q j a b. absurd (omega arith), λ h. refl);

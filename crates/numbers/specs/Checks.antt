@@ -2,7 +2,7 @@
 use mathlib.Core.Path.{_≡_}
 use mathlib.Core.Logic.{_⊎_, _↔_}
 use mathlib.Core.Bool.{Bool, true, false, _&&_}
-use mathlib.Core.List.{List, [], _∷_}
+use mathlib.Core.List.{List, [], _∷_, _++_}
 use Prim.Native.Nat.{ℕ, zero, suc, _<_}
 use lib.Dec.{ltb, leb, eqb}
 use Rattle.numbers.specs.declared.Checked.{Checked}
@@ -25,10 +25,14 @@ abbrev pub first : List Checked → Checked
 first [] = Pass
 first (v ∷ vs) = both v (first vs)
 
+-- the checks of the k places from i on, in turn
+unfoldable pub eachFrom : (ℕ → Checked) → ℕ → ℕ → Checked
+eachFrom check i zero = Pass
+eachFrom check i (suc k) = both (check i) (eachFrom check (suc i) k)
+
 -- of the k places from i on, the first that fails its test
 unfoldable pub firstFrom : (ℕ → Bool) → ℕ → ℕ → ℕ → Checked
-firstFrom good number i zero = Pass
-firstFrom good number i (suc k) = both (unless (good i) number i) (firstFrom good number (suc i) k)
+firstFrom good number i k = eachFrom (λ j. unless (good j) number j) i k
 
 -- each of the k places from i on passes its test
 unfoldable pub everyFrom : (ℕ → Bool) → ℕ → ℕ → Bool
@@ -62,9 +66,13 @@ pub record Decides (v : Checked) (r : Rule) : Type 0 where
   pub passes : (v ≡ Pass) ↔ r .fact
   pub fails : (number place : ℕ) → (v ≡ Fail number place) ↔ r .fault number place
 
--- one fact: broken, it fails with this number at place 0
+-- one fact: broken, it fails with this number at this place
+abbrev pub ruleFor : ℕ → ℕ → Type 0 → Rule
+ruleFor number place P = record { fact = P; fault = λ n p. ((n ≡ number) × (p ≡ place)) × (P → ⊥) }
+
+-- the same at place 0
 abbrev pub rule : ℕ → Type 0 → Rule
-rule number P = record { fact = P; fault = λ n p. ((n ≡ number) × (p ≡ 0)) × (P → ⊥) }
+rule number P = ruleFor number 0 P
 
 -- a fact of each place below k: broken, it fails with this number at the least place that breaks it
 abbrev pub ruleAt : ℕ → ℕ → (ℕ → Type 0) → Rule
@@ -82,6 +90,11 @@ Holds (r ∷ rs) = r .fact × Holds rs
 unfoldable pub Broken : List Rule → ℕ → ℕ → Type 0
 Broken [] number place = ⊥
 Broken (r ∷ rs) number place = r .fault number place ⊎ (r .fact × Broken rs number place)
+
+-- the rules of the k places from i on, in turn
+unfoldable pub rulesFrom : (ℕ → List Rule) → ℕ → ℕ → List Rule
+rulesFrom rules i zero = []
+rulesFrom rules i (suc k) = rules i ++ rulesFrom rules (suc i) k
 
 abbrev pub inOrder : List Rule → Rule
 inOrder rs = record { fact = Holds rs; fault = Broken rs }

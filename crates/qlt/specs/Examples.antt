@@ -8,7 +8,7 @@ use Rattle.numbers.specs.Sums.{sumTo}
 use Rattle.numbers.specs.Lists.{listTo}
 use Rattle.numbers.specs.Signed.{minℤ, maxℤ}
 use Rattle.numbers.specs.Quota.{quota}
-use Rattle.numbers.specs.Checks.{Answered, accepted, refused, answered, after, firstFrom, checkCount}
+use Rattle.numbers.specs.Checks.{Answered, accepted, refused, answered, after, eachFrom, firstFrom, checkCount}
 use Rattle.caas.specs.Split.{clip, clipped, deficit, capacity, portion, firstShare, remainder, left, secondShare, shares, result}
 use Rattle.qlt.specs.declared.Repair.{Repair}
 use Rattle.qlt.specs.Tree.{leads, childOf, anyChild, nodeSum, parentOk, nodeOk, massFrom, massAt}
@@ -57,5 +57,5 @@ got r =
 
 -- what the definitions give is what 01 says, in every row
 pub examples : map got rows ≡ rows
-unfolding sumTo listTo minℤ maxℤ quota firstFrom checkCount clip clipped deficit capacity portion firstShare remainder left secondShare shares result leads childOf anyChild nodeSum parentOk nodeOk massFrom massAt outcome number lowIn highIn changeOf groupOf treeMass treeMasses checkNodes checkLists checkTree boundsOrdered checkOrder checkSum checkReach shapeChecks valueChecks verdict repair
+unfolding sumTo listTo minℤ maxℤ quota eachFrom firstFrom checkCount clip clipped deficit capacity portion firstShare remainder left secondShare shares result leads childOf anyChild nodeSum parentOk nodeOk massFrom massAt outcome number lowIn highIn changeOf groupOf treeMass treeMasses checkNodes checkLists checkTree boundsOrdered checkOrder checkSum checkReach shapeChecks valueChecks verdict repair
 examples = refl

@@ -1,0 +1,9 @@
+pub mod Fractions
+pub mod Powers
+pub mod Patterns
+pub mod FieldLaws
+pub mod FormLaws
+pub mod RoundingLaws
+pub mod ImportLaws
+pub mod ExportLaws
+pub mod TripLaws

@@ -1,0 +1,6 @@
+pub mod Roundings
+pub mod Import
+pub mod Export
+pub mod Trip
+pub mod Forms
+pub mod Examples

@@ -1,0 +1,60 @@
+// Import and Export: doubles to units and units to doubles by IEEE 754. The roundings and what they are, what the operations check and
+// answer, the forms that the code follows, and the laws. Definitions (specs/) and laws (proofs/) alone; the code is in the crate
+// `doubles`. Relies on `numbers`.
+
+// The five doubles of a cell.
+pub struct CellDoubles {
+    pub target: f64,
+    pub low: f64,
+    pub high: f64,
+    pub safe_low: f64,
+    pub safe_high: f64,
+}
+
+// The same in whole units.
+pub struct CellUnits {
+    pub target: i32,
+    pub low: u32,
+    pub high: u32,
+    pub safe_low: u32,
+    pub safe_high: u32,
+}
+
+// Import's answer: the units; the scale refused, with no double; or the double refused as it came, with 01's number and its field, 0 to 4.
+pub enum Imported {
+    Units(CellUnits),
+    BadScale,
+    Refused {
+        number: u32,
+        field: u32,
+        double: f64,
+    },
+}
+
+// Export's answer.
+pub enum Exported {
+    Double(f64),
+    Refused { number: u32, place: u32 },
+}
+
+// For the code alone: a double times 2^k. Of a finite one the sign, the whole part of the size (cut at 2^52, which is out of every range)
+// and what is left of it: 0 nothing, 1 less than a half, 2 a half, 3 more.
+pub enum Product {
+    Finite {
+        negative: bool,
+        whole: u64,
+        rest: u32,
+    },
+    NotFinite,
+}
+
+// For the code alone: what one field gives, its units or the refusal's number.
+pub enum TargetField {
+    Units(i32),
+    Bad(u32),
+}
+
+pub enum BoundField {
+    Units(u32),
+    Bad(u32),
+}

@@ -1,0 +1,83 @@
+// The operations Import and Export. Public: `import`, `export`; the work below them is in a module of its own, for this crate alone.
+// Relies on `conversion` and `numbers`.
+ghost use Rattle.conversion.specs.Import.{ImportContract};
+ghost use Rattle.conversion.specs.Export.{ExportContract};
+use conversion::BoundField;
+use conversion::CellDoubles;
+use conversion::CellUnits;
+use conversion::Exported;
+use conversion::Imported;
+use conversion::TargetField;
+
+mod fields;
+mod power;
+
+// A cell's doubles in whole units at a scale.
+pub fn import(cell: CellDoubles, scale: u32) -> Imported
+    ensures { λ r. ⌜ ImportContract cell scale r ⌝ }
+{
+    if scale > 30 {
+        return Imported::BadScale;
+    }
+    match fields::target_field(cell.target, scale) {
+        TargetField::Units(target) => match fields::low_field(cell.low, scale) {
+            BoundField::Units(low) => match fields::high_field(cell.high, scale) {
+                BoundField::Units(high) => match fields::low_field(cell.safe_low, scale) {
+                    BoundField::Units(safe_low) => match fields::high_field(cell.safe_high, scale) {
+                        BoundField::Units(safe_high) => Imported::Units(CellUnits {
+                            target,
+                            low,
+                            high,
+                            safe_low,
+                            safe_high,
+                        }),
+                        BoundField::Bad(number) => Imported::Refused {
+                            number,
+                            field: 4,
+                            double: cell.safe_high,
+                        },
+                    },
+                    BoundField::Bad(number) => Imported::Refused {
+                        number,
+                        field: 3,
+                        double: cell.safe_low,
+                    },
+                },
+                BoundField::Bad(number) => Imported::Refused {
+                    number,
+                    field: 2,
+                    double: cell.high,
+                },
+            },
+            BoundField::Bad(number) => Imported::Refused {
+                number,
+                field: 1,
+                double: cell.low,
+            },
+        },
+        TargetField::Bad(number) => Imported::Refused {
+            number,
+            field: 0,
+            double: cell.target,
+        },
+    }
+}
+
+// mass × 2^−scale, exactly.
+pub fn export(mass: u32, scale: u32) -> Exported
+    ensures { λ r. ⌜ ExportContract mass scale r ⌝ }
+{
+    if scale > 30 {
+        return Exported::Refused {
+            number: 9,
+            place: 0,
+        };
+    }
+    if mass > 2147483647 {
+        return Exported::Refused {
+            number: 11,
+            place: 0,
+        };
+    }
+    Exported::Double((mass as f64) * power::power(scale))
+}
