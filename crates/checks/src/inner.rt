@@ -42,7 +42,7 @@ pub fn sum_of(xs: &[u32]) -> u64
 }
 
 // 2: the number of nodes is at least that of cells, and at most 1024.
-fn check_nodes(n: usize, m: usize) -> Checked
+pub fn check_nodes(n: usize, m: usize) -> Checked
     ensures { λ r. ⌜ r ≡ checkNodes n m ⌝ }
 {
     if m < n {

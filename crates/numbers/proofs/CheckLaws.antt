@@ -9,7 +9,7 @@ use native.Mathlib.Numerals.{add-one}
 use native.Mathlib.Decide.{ℕ-discrete}
 use Rattle.numbers.specs.declared.Checked.{Checked}
 use Rattle.numbers.specs.declared.Checked.the-variants.{Pass, Fail}
-use Rattle.numbers.specs.Checks.{accepted, refused, answered, unless, both, eachFrom, firstFrom, everyFrom, Rule, Decides, rule, ruleFor, ruleAt, Holds, Broken, rulesFrom, inOrder, checkCount}
+use Rattle.numbers.specs.Checks.{accepted, refused, answered, unless, both, eachFrom, firstFrom, everyFrom, Rule, Decides, rule, ruleFor, ruleAt, Holds, Broken, rulesFrom, inOrder, checkCount, checkLong}
 use Rattle.numbers.proofs.TestLaws.{Tested, holds, fails, tested, clash, and-means, lt-means, le-means, and-first, and-second, and-intro}
 
 -- ---- along a chain: the first passes and the rest decides; the first fails and that is it; the last decides
@@ -149,6 +149,10 @@ decides-then (Fail a b) w r rs d e =
           );
     }
 
+-- one rule alone, as a list of rules
+pub alone : (v : Checked) (r : Rule) → Decides v r → Decides v (inOrder (r ∷ []))
+alone v r d = subst (λ x. Decides x (inOrder (r ∷ []))) (both-pass v) (decides-then v Pass r [] d decides-none)
+
 -- one list of rules after another
 holds-append : (rs ss : List Rule) → Holds (rs ++ ss) ↔ (Holds rs × Holds ss)
 unfolding Holds
@@ -202,7 +206,7 @@ module _ (check : ℕ → Checked) where
       go j a b p q (yes e) = subst (λ x. check x ≡ Pass) e p
       go j a b p q (no e) = q (omega arith) (omega arith)
 
--- every place below k passes its test
+-- every place of a range passes its test, and every place below k
 module _ (good : ℕ → Bool) (P : ℕ → Type 0) (e : (i : ℕ) → (good i ≡ true) ↔ P i) where
   abbrev From : ℕ → ℕ → Type 0
   From i k = (j : ℕ) → i ≤ j → j < i + k → P j
@@ -214,7 +218,7 @@ module _ (good : ℕ → Bool) (P : ℕ → Type 0) (e : (i : ℕ) → (good i �
       go (yes s) = subst P s h
       go (no s) = r j (omega arith) (omega arith)
 
-  every-from : (i k : ℕ) → (everyFrom good i k ≡ true) ↔ From i k
+  pub every-from : (i k : ℕ) → (everyFrom good i k ≡ true) ↔ ((j : ℕ) → i ≤ j → j < i + k → P j)
   unfolding everyFrom
   every-from i zero = (λ q j a b. absurd (omega arith), λ h. refl)
   every-from i (suc k) = (
@@ -296,3 +300,7 @@ module _ (good : ℕ → Bool) (P : ℕ → Type 0) (e : (i : ℕ) → (good i �
 pub count-decides : (n : ℕ) → Decides (checkCount n) (rule 1 ((0 < n) × (n ≤ 512)))
 unfolding checkCount
 count-decides n = decides-unless _ 1 (and-means (lt-means 0 n) (le-means n 512))
+
+pub long-decides : (k n : ℕ) → Decides (checkLong k n) (rule 3 (n ≤ k))
+unfolding checkLong
+long-decides k n = decides-unless _ 3 (le-means n k)

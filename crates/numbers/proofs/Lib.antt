@@ -2,6 +2,7 @@
 pub mod TestLaws
 pub mod SumLaws
 pub mod ListLaws
+pub mod PartLaws
 pub mod SignedLaws
 pub mod QuotaLaws
 pub mod CheckLaws

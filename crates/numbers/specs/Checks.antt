@@ -109,6 +109,10 @@ checkCount n = unless (ltb 0 n && leb n 512) 1 0
 unfoldable pub checkLength : ℕ → ℕ → Checked
 checkLength k n = unless (eqb k n) 3 0
 
+-- 3: a list of k entries has room for n
+unfoldable pub checkLong : ℕ → ℕ → Checked
+checkLong k n = unless (leb n k) 3 0
+
 -- the largest sum that 01 allows of highs, safe highs, weights and kept masses
 abbrev pub maxTotal : ℕ
 maxTotal = 2147483647

@@ -9,9 +9,9 @@ ghost use Rattle.numbers.specs.Lists.{atℤ};
 ghost use Rattle.numbers.specs.Signed.{over};
 ghost use Rattle.numbers.specs.Quota.{quota};
 ghost use Rattle.numbers.specs.declared.Checked.the-variants.{Fail};
-ghost use Rattle.numbers.specs.Checks.{both, checkCount, checkLength};
+ghost use Rattle.numbers.specs.Checks.{both, checkCount, checkLength, checkLong};
 
-// The smaller and the larger of two.
+// The smaller and the larger of two; the smaller of two lengths.
 pub fn smaller(a: u64, b: u64) -> u64
     ensures { λ r. ⌜ r ≡ min a b ⌝ }
 {
@@ -22,6 +22,12 @@ pub fn larger(a: u64, b: u64) -> u64
     ensures { λ r. ⌜ r ≡ max a b ⌝ }
 {
     if a < b { b } else { a }
+}
+
+pub fn least(a: usize, b: usize) -> usize
+    ensures { λ r. ⌜ r ≡ min a b ⌝ }
+{
+    if a < b { a } else { b }
 }
 
 // An index read from a list, and an index to be stored in one.
@@ -171,4 +177,17 @@ pub fn check_length(k: usize, n: usize) -> crate::Checked
         number: 3,
         place: 0,
     }
+}
+
+// 3: a list of k entries has room for n.
+pub fn check_long(k: usize, n: usize) -> crate::Checked
+    ensures { λ r. ⌜ r ≡ checkLong k n ⌝ }
+{
+    if k < n {
+        return crate::Checked::Fail {
+            number: 3,
+            place: 0,
+        };
+    }
+    crate::Checked::Pass
 }

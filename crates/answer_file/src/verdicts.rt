@@ -1,0 +1,75 @@
+// The checks of Write an answer, one function each, and their chain in 01's order.
+ghost use mathlib.Core.Path.{_≡_};
+ghost use Prim.Native.Nat.{_≤_};
+ghost use lib.ListN.{length};
+ghost use Rattle.formats.specs.WriteAnswer.{checkSpace, checkOutcome, checkMasses, writeCall, writeVerdict};
+use checks::inner::sum_of;
+use numbers::Checked;
+use numbers::inner::check_count;
+use numbers::inner::then;
+use qlt::Repair;
+
+// 3: the buffer and the masses are long enough.
+fn check_space(n: usize, buffer: usize, masses: usize) -> Checked
+    requires { ⌜ n ≤ 512 ⌝ }
+    ensures { λ r. ⌜ r ≡ checkSpace n buffer masses ⌝ }
+{
+    if buffer < 512 * (1 + (n + 124) / 125) {
+        return Checked::Fail {
+            number: 3,
+            place: 0,
+        };
+    }
+    if masses < n {
+        return Checked::Fail {
+            number: 3,
+            place: 0,
+        };
+    }
+    Checked::Pass
+}
+
+// 16: the outcome is at most 2.
+fn check_outcome(outcome: u32) -> Checked
+    ensures { λ r. ⌜ r ≡ checkOutcome outcome ⌝ }
+{
+    if outcome > 2 {
+        return Checked::Fail {
+            number: 16,
+            place: 1,
+        };
+    }
+    Checked::Pass
+}
+
+// 12: the first n masses add up to the total.
+fn check_masses(n: usize, masses: &[u32], total: u32) -> Checked
+    requires { ⌜ (n ≤ 512) × (n ≤ length (now masses)) ⌝ }
+    ensures { λ r. ⌜ r ≡ checkMasses n (now (masses .entry)) total ⌝ }
+{
+    if sum_of(&masses[0..n]) == total as u64 {
+        return Checked::Pass;
+    }
+    Checked::Fail {
+        number: 12,
+        place: 0,
+    }
+}
+
+// The chain.
+pub fn write_verdict(cells: usize, repair: Repair, masses: &[u32], buffer: &[u8]) -> Checked
+    ensures { λ r. ⌜ r ≡ writeVerdict (writeCall cells repair (now (masses .entry)) (now (buffer .entry))) ⌝ }
+{
+    let count = check_count(cells);
+    if let Checked::Fail { number, place } = count {
+        return Checked::Fail { number, place };
+    }
+    let space = check_space(cells, buffer.len(), masses.len());
+    if let Checked::Fail { number, place } = space {
+        return Checked::Fail { number, place };
+    }
+    then(
+        check_outcome(repair.outcome),
+        check_masses(cells, masses, repair.total),
+    )
+}

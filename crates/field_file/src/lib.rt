@@ -1,0 +1,46 @@
+// The operation Read a field file. Public: `read_field`; the checks and the reading of the lists are in modules of their own, for this
+// crate alone. Relies on `formats`, `blocks`, `checks`, `qlt` and `numbers`.
+ghost use Rattle.qlt.specs.Field.{lists};
+ghost use Rattle.formats.specs.ReadField.{ReadContract};
+use formats::FieldRead;
+
+mod content;
+mod verdicts;
+
+// Reads a field file into seven lists, which may be longer than the field. A refused call writes nothing.
+pub fn read_field(
+    file: &[u8],
+    targets: &mut [i32],
+    lows: &mut [u32],
+    highs: &mut [u32],
+    safe_lows: &mut [u32],
+    safe_highs: &mut [u32],
+    weights: &mut [u32],
+    parents: &mut [u32],
+) -> FieldRead
+    ensures { λ r. ⌜ ReadContract (now (file .entry)) (lists (now (targets .entry)) (now (lows .entry)) (now (highs .entry)) (now («safe_lows» .entry)) (now («safe_highs» .entry)) (now (weights .entry)) (now (parents .entry))) r (lists (now (targets .exit)) (now (lows .exit)) (now (highs .exit)) (now («safe_lows» .exit)) (now («safe_highs» .exit)) (now (weights .exit)) (now (parents .exit))) ⌝ }
+{
+    let head = verdicts::head_verdict(
+        file,
+        targets,
+        lows,
+        highs,
+        safe_lows,
+        safe_highs,
+        weights,
+        parents,
+    );
+    let verdict = verdicts::with_later(head, file);
+    content::read_by(
+        verdict,
+        file,
+        targets,
+        lows,
+        highs,
+        safe_lows,
+        safe_highs,
+        weights,
+        parents,
+    );
+    content::answer_by(verdict, file)
+}

@@ -1,0 +1,4 @@
+-- The laws of field files and answer files, by file; each stands over the definitions of specs/ alone.
+pub mod ReadLaws
+pub mod WriteLaws
+pub mod BackLaws

@@ -1,0 +1,197 @@
+-- What reading's verdict means, that an answer tells its verdict and its values and nothing else, and what the contract alone says of a
+-- call. Assumes nothing.
+use mathlib.Core.Path.{_≡_, sym, _∙_, ap, subst}
+use mathlib.Core.Logic.{_↔_}
+use mathlib.Core.Bool.{Bool, true, false, cond, _&&_}
+use mathlib.Core.List.{List}
+use Prim.Native.Nat.{ℕ, _+_, _*_, _-_, _%_, _≤_, _<_, min}
+use native.Mathlib.Omega.{arith}
+use lib.Dec.{leb}
+use lib.ListN.{length}
+use Rattle.numbers.specs.declared.Checked.{Checked}
+use Rattle.numbers.specs.declared.Checked.the-variants.{Pass, Fail}
+use Rattle.numbers.specs.Checks.{checkLong, after, unless, both, Decides, rule, ruleFor, inOrder, Holds, Broken}
+use Rattle.numbers.proofs.TestLaws.{and-means, lt-means, le-means, eq-means}
+use Rattle.numbers.proofs.CheckLaws.{on, both-first, both-second, both-pass, unless-and, each-passes, answered-accepted, answered-refused, decides-for, decides-unless, decides-then, decides-none, decides-append, decides-each, count-decides}
+use Rattle.blocks.specs.Blocks.{blockOf, payloadWord, checkBlock, Sound, SpareZero, blockRules}
+use Rattle.blocks.proofs.BlockLaws.{sound-decides, spare-decides, block-decides}
+use Rattle.qlt.specs.Field.{Lists}
+use Rattle.qlt.proofs.CheckLaws.{nodes-decides}
+use Rattle.formats.specs.declared.FieldRead.{FieldRead}
+use Rattle.formats.specs.declared.FieldRead.the-variants.{Read, Refused}
+use Rattle.formats.specs.FieldFile.{cellBlocks, fieldBlocks, fieldUsed}
+use Rattle.formats.specs.ReadField.{fileCells, fileNodes, fileTotal, checkFileLength, checkMark, checkSizes, checkRoom, roomOf, headVerdict, laterVerdict, readVerdict, Room, headRules, laterRules, readRules, HeadFits, Measured, ReadFits, Sizes, sizesOf, readTells, listsRead, ReadContract}
+
+-- ---- each check
+
+-- no block uses more words than its payload has
+pub used-small : (n m b : ℕ) → fieldUsed n m b ≤ 125
+unfolding fieldUsed
+used-small n m b = go (leb b 1) (leb b (1 + cellBlocks n))
+  where
+    go : (p q : Bool) → cond p 4 (cond q (6 * min 20 (n - 20 * (b - 2))) (min 125 (m - 125 * (b - (2 + cellBlocks n))))) ≤ 125
+    go true q = omega arith
+    go false true = omega arith
+    go false false = omega arith
+
+pub length-decides : (l : ℕ) → Decides (checkFileLength l) (rule 14 ((0 < l) × ((l ≤ 18432) × (l % 512 ≡ 0))))
+unfolding checkFileLength
+length-decides l = decides-unless _ 14 (and-means (lt-means 0 l) (and-means (le-means l 18432) (eq-means (l % 512) 0)))
+
+pub mark-decides : (file : List ℕ) → Decides (checkMark file) (ruleFor 16 1 (payloadWord file 1 0 ≡ 512))
+unfolding checkMark
+mark-decides file = decides-for _ 16 1 (eq-means (payloadWord file 1 0) 512)
+
+pub sizes-decides : (l n m : ℕ) → Decides (checkSizes l n m) (rule 14 (l ≡ 512 * fieldBlocks n m))
+unfolding checkSizes
+sizes-decides l n m = decides-unless _ 14 (eq-means l (512 * fieldBlocks n m))
+
+-- one test before others with the same number
+one-more : (a b : Bool) (v : Checked) → v ≡ unless b 3 0 → both (unless a 3 0) v ≡ unless (a && b) 3 0
+one-more a b v e = ap (both (unless a 3 0)) e ∙ unless-and a b 3 0
+
+pub room-decides : (n m : ℕ) (s : Lists) → Decides (roomOf n m s) (rule 3 (Room n m s))
+unfolding checkRoom checkLong
+room-decides n m s =
+    let chain =
+    one-more (leb n (length (s .targets))) _ _
+    (one-more (leb n (length (s .lows))) _ _
+    (one-more (leb n (length (s .highs))) _ _
+    (one-more (leb n (length (s .safeLows))) _ _
+    (one-more (leb n (length (s .safeHighs))) _ _
+    (one-more (leb n (length (s .weights))) _ _ (both-pass (unless (leb m (length (s .parents))) 3 0))))))) in
+    let t =
+    and-means (le-means n (length (s .targets)))
+    (and-means (le-means n (length (s .lows)))
+    (and-means (le-means n (length (s .highs)))
+    (and-means (le-means n (length (s .safeLows)))
+    (and-means (le-means n (length (s .safeHighs)))
+    (and-means (le-means n (length (s .weights))) (le-means m (length (s .parents)))))))) in
+    subst (λ v. Decides v (rule 3 (Room n m s))) (sym chain)
+    (decides-unless _ 3 (
+      λ e.
+          let h = t .0 e in
+          record { targets = h .0; lows = h .1 .0; highs = h .1 .1 .0; safeLows = h .1 .1 .1 .0; safeHighs = h .1 .1 .1 .1 .0; weights = h .1 .1 .1 .1 .1 .0; parents = h .1 .1 .1 .1 .1 .1 },
+      λ r. t .1 (r .targets, (r .lows, (r .highs, (r .safeLows, (r .safeHighs, (r .weights, r .parents)))))),
+    ))
+
+-- ---- the verdict
+
+module _ (file : List ℕ) (s : Lists) where
+  abbrev n : ℕ
+  n = fileCells file
+
+  abbrev m : ℕ
+  m = fileNodes file
+
+  abbrev k : ℕ
+  k = fieldBlocks n m
+
+  pub head-decides : Decides (headVerdict file s) (inOrder (headRules file s))
+  unfolding headVerdict headRules
+  head-decides =
+      decides-then _ _ _ _ (length-decides (length file))
+      (decides-then _ _ _ _ (sound-decides file 1)
+      (decides-then _ _ _ _ (mark-decides file)
+      (decides-then _ _ _ _ (spare-decides file 4 1 (omega arith))
+      (decides-then _ _ _ _ (count-decides n)
+      (decides-then _ _ _ _ (nodes-decides n m)
+      (decides-then _ _ _ _ (sizes-decides (length file) n m)
+      (decides-then _ _ _ _ (room-decides n m s) decides-none)))))))
+
+  later-decides : Decides (laterVerdict file) (inOrder (laterRules file))
+  unfolding laterVerdict laterRules
+  later-decides = decides-each (checkBlock file (fieldUsed n m)) (blockRules file (fieldUsed n m)) (λ b. block-decides file (fieldUsed n m) b (used-small n m b)) 2 (k - 1)
+
+  chain : readVerdict file s ≡ both (headVerdict file s) (laterVerdict file)
+  unfolding readVerdict
+  chain = ap (both (headVerdict file s)) (both-pass (laterVerdict file))
+
+  -- accepted if every rule holds; refused with a number at a place if those before it hold and this one is broken there
+  pub read-decides : Decides (readVerdict file s) (inOrder (readRules file s))
+  read-decides = subst (λ v. Decides v (inOrder (readRules file s))) (sym chain) (decides-append _ _ (headRules file s) (laterRules file) head-decides later-decides)
+
+  head-rules : Holds (headRules file s) ↔ HeadFits file s
+  unfolding headRules Holds
+  head-rules = (
+    λ h.
+        record {
+          whole = h .1 .1 .1 .1 .1 .1 .0;
+          sound = h .1 .0;
+          mark = h .1 .1 .0;
+          spare = h .1 .1 .1 .0;
+          some = h .1 .1 .1 .1 .0 .0;
+          few = h .1 .1 .1 .1 .0 .1;
+          nodes-room = h .1 .1 .1 .1 .1 .0 .0;
+          nodes-few = h .1 .1 .1 .1 .1 .0 .1;
+          room = h .1 .1 .1 .1 .1 .1 .1 .0;
+        },
+    λ f. (
+      (omega (arith, f .whole), (omega (arith, f .whole, f .few, f .nodes-few), omega (arith, f .whole))),
+      (f .sound, (f .mark, (f .spare, ((f .some, f .few), ((f .nodes-room, f .nodes-few), (f .whole, (f .room, tt))))))),
+    ),
+  )
+
+  pub head-accepts : (headVerdict file s ≡ Pass) ↔ HeadFits file s
+  head-accepts = (λ e. head-rules .0 (head-decides .passes .0 e), λ f. head-decides .passes .1 (head-rules .1 f))
+
+  pub head-measured : HeadFits file s → Measured file
+  head-measured f = record { whole = f .whole; some = f .some; few = f .few; nodes-few = f .nodes-few }
+
+  pub head-room : HeadFits file s → Room (fileCells file) (fileNodes file) s
+  head-room f = f .room
+
+  -- a later block passes if it is sound and its spare words are 0
+  pub block-fits : (b : ℕ) → (checkBlock file (fieldUsed n m) b ≡ Pass) ↔ (Sound (blockOf file b) b × SpareZero file (fieldUsed n m b) b)
+  unfolding Holds
+  block-fits b =
+      let d = block-decides file (fieldUsed n m) b (used-small n m b) in
+      (λ e. let h = d .passes .0 e in (h .0, h .1 .0), λ h. d .passes .1 (h .0, (h .1, tt)))
+
+  later-accepts : (laterVerdict file ≡ Pass) ↔ ((b : ℕ) → 2 ≤ b → b ≤ k → Sound (blockOf file b) b × SpareZero file (fieldUsed n m b) b)
+  unfolding laterVerdict
+  later-accepts =
+      let t = each-passes (checkBlock file (fieldUsed n m)) 2 (k - 1) in
+      (λ e b l h. block-fits b .0 (t .0 e b l (omega arith)), λ f. t .1 (λ b l h. block-fits b .1 (f b l (omega arith))))
+
+  pub read-accepts : (readVerdict file s ≡ Pass) ↔ ReadFits file s
+  read-accepts = (
+    λ e.
+        let p = sym chain ∙ e in
+        let l = later-accepts .0 (both-second (headVerdict file s) _ p) in
+        record { head = head-accepts .0 (both-first _ _ p); sound = λ b i j. l b i j .0; spare = λ b i j. l b i j .1 },
+    λ f. chain ∙ sym (on (head-accepts .1 (f .head)) (sym (later-accepts .1 (λ b i j. (f .sound b i j, f .spare b i j))))),
+  )
+
+  pub read-refuses : (number place : ℕ) → (readVerdict file s ≡ Fail number place) ↔ Broken (readRules file s) number place
+  read-refuses = read-decides .fails
+
+-- ---- the answer
+
+-- what an answer tells is the answer
+pub read-tells-injective : (a b : FieldRead) → readTells a ≡ readTells b → a ≡ b
+unfolding readTells
+read-tells-injective (Read c d t) (Read i j u) e =
+    let r = answered-accepted Pass (record { cells = c; nodes = d; total = t }) (record { cells = i; nodes = j; total = u }) e .1 in
+    cc (ap (λ (z : Sizes). z .cells) r, ap (λ (z : Sizes). z .nodes) r, ap (λ (z : Sizes). z .total) r)
+read-tells-injective (Read c d t) (Refused i j) e = let z : _≡_ {A = ℕ} 0 1 = cc in absurd (omega arith)
+read-tells-injective (Refused c p) (Read i j u) e = let z : _≡_ {A = ℕ} 0 1 = cc in absurd (omega arith)
+read-tells-injective (Refused c p) (Refused i j) e = cc
+
+-- ---- from the contract alone
+
+-- a file that was read fits; the answer is what block 1 says, and the lists are what the file says
+pub read-done : {file : List ℕ} {s t : Lists} {n m M : ℕ} → ReadContract file s (Read n m M) t → ReadFits file s × ((n ≡ fileCells file) × ((m ≡ fileNodes file) × ((M ≡ fileTotal file) × (t ≡ listsRead file s))))
+unfolding readTells
+read-done {file} {s} {t} {n} {m} {M} p =
+    let e = answered-accepted (readVerdict file s) (record { cells = n; nodes = m; total = M }) (sizesOf file) (p .answers) in (
+      read-accepts file s .0 (e .0),
+      (ap (λ (z : Sizes). z .cells) (e .1), (ap (λ (z : Sizes). z .nodes) (e .1), (ap (λ (z : Sizes). z .total) (e .1), p .writes ∙ ap (λ v. after v (listsRead file s) s) (e .0)))),
+    )
+
+-- a refused call left the lists as they were
+pub read-refused : {file : List ℕ} {s t : Lists} {number place : ℕ} → ReadContract file s (Refused number place) t → (readVerdict file s ≡ Fail number place) × (t ≡ s)
+unfolding readTells
+read-refused {file} {s} {t} {number} {place} p =
+    let e = answered-refused (readVerdict file s) (sizesOf file) number place (p .answers) in
+    (e, p .writes ∙ ap (λ v. after v (listsRead file s) s) e)

@@ -1,0 +1,4 @@
+pub mod FieldFile
+pub mod ReadField
+pub mod WriteAnswer
+pub mod Stored

@@ -1,0 +1,21 @@
+// Field files and answer files: their bytes, what reading and writing them checks, answers and leaves, and the laws. Definitions
+// (specs/) and laws (proofs/) alone; the code is in the crates `field_file` and `answer_file`. Relies on `blocks`, `qlt` and `numbers`.
+
+// What reading a field file answers: the sizes and M, the lists being written; or the refusal.
+pub enum FieldRead {
+    Read {
+        cells: usize,
+        nodes: usize,
+        total: u32,
+    },
+    Refused {
+        number: u32,
+        place: u32,
+    },
+}
+
+// What writing an answer file answers: how many bytes the file has; or the refusal.
+pub enum AnswerWritten {
+    Bytes(usize),
+    Refused { number: u32, place: u32 },
+}
