@@ -2,4 +2,3 @@
 pub mod Group
 pub mod Split
 pub mod Operation
-pub mod Examples

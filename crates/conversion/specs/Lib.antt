@@ -3,4 +3,3 @@ pub mod Import
 pub mod Export
 pub mod Trip
 pub mod Forms
-pub mod Examples

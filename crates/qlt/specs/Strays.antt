@@ -1,4 +1,5 @@
--- 01's starred examples of Reconstruct, E1 and E4 to E8, by the definitions that the operation's contract cites. Assumes nothing.
+-- 'Where programs stray' of 01: fields at which a program that strays gives something else, by the definitions that Reconstruct's
+-- contract cites. (The starred examples stand in the crate `starred`.) Assumes nothing.
 use mathlib.Core.Path.{_≡_, refl}
 use mathlib.Core.List.{List, [], _∷_, map}
 use Prim.Native.Nat.{ℕ}
@@ -8,7 +9,7 @@ use Rattle.numbers.specs.Sums.{sumTo}
 use Rattle.numbers.specs.Lists.{listTo}
 use Rattle.numbers.specs.Signed.{minℤ, maxℤ}
 use Rattle.numbers.specs.Quota.{quota}
-use Rattle.numbers.specs.Checks.{Answered, accepted, refused, answered, after, eachFrom, firstFrom, checkCount}
+use Rattle.numbers.specs.Checks.{Answered, accepted, answered, after, eachFrom, firstFrom, checkCount}
 use Rattle.caas.specs.Split.{clip, clipped, deficit, capacity, portion, firstShare, remainder, left, secondShare, shares, result}
 use Rattle.qlt.specs.declared.Repair.{Repair}
 use Rattle.qlt.specs.Tree.{leads, childOf, anyChild, nodeSum, parentOk, nodeOk, massFrom, massAt}
@@ -23,28 +24,30 @@ pub record Row : Type 0 where
   pub told : Answered Repair
   pub masses : List ℕ
 
-abbrev e1 : List ℕ → Call
-e1 parents =
-    call (lists (negsuc 1 ∷ pos 9 ∷ pos 4 ∷ pos 5 ∷ []) (replicate 4 0) (replicate 4 8) (replicate 4 0) (replicate 4 10) (replicate 4 0) parents)
+-- E1 with no tree: sharing over all cells
+abbrev flat : Call
+flat =
+    call (lists (negsuc 1 ∷ pos 9 ∷ pos 4 ∷ pos 5 ∷ []) (replicate 4 0) (replicate 4 8) (replicate 4 0) (replicate 4 10) (replicate 4 0) (replicate 5 4))
     16 (replicate 4 9) (replicate 42 (pos 1))
 
-abbrev e4 : ℕ → List ℕ → Call
-e4 M parents =
-    call (lists (pos 3 ∷ pos 5 ∷ []) (3 ∷ 5 ∷ []) (4 ∷ 6 ∷ []) (replicate 2 0) (replicate 2 10) (replicate 2 0) parents)
-    M (replicate 2 9) (replicate 18 (pos 1))
+-- targets −3, 10, 5, the first two below one node: clipped before they are added up they would give 0 6 4
+abbrev clipping : Call
+clipping =
+    call (lists (negsuc 2 ∷ pos 10 ∷ pos 5 ∷ []) (replicate 3 0) (replicate 3 8) (replicate 3 0) (replicate 3 10) (replicate 3 0) (3 ∷ 3 ∷ 4 ∷ 4 ∷ 4 ∷ []))
+    10 (replicate 3 9) (replicate 30 (pos 1))
 
-abbrev e8 : Call
-e8 = call (lists (pos 3 ∷ []) (0 ∷ []) (5 ∷ []) (0 ∷ []) (10 ∷ []) (0 ∷ []) (0 ∷ [])) 7 (9 ∷ []) (replicate 6 (pos 1))
+-- E4's field at a total that equals the sum of the lows, or of the highs: no safety bounds
+abbrev equal : ℕ → Call
+equal M =
+    call (lists (pos 3 ∷ pos 5 ∷ []) (3 ∷ 5 ∷ []) (4 ∷ 6 ∷ []) (replicate 2 0) (replicate 2 10) (replicate 2 0) (2 ∷ 2 ∷ 2 ∷ []))
+    M (replicate 2 9) (replicate 18 (pos 1))
 
 abbrev pub rows : List Row
 rows =
-    record { given = e1 (4 ∷ 4 ∷ 5 ∷ 5 ∷ 6 ∷ 6 ∷ 6 ∷ []); told = accepted (record { outcome = 0; total = 16; change = 4 }); masses = 0 ∷ 7 ∷ 4 ∷ 5 ∷ [] }
-    ∷ record { given = e4 4 (2 ∷ 2 ∷ 2 ∷ []); told = accepted (record { outcome = 1; total = 4; change = 4 }); masses = 2 ∷ 2 ∷ [] }
-    ∷ record { given = e4 14 (2 ∷ 2 ∷ 2 ∷ []); told = accepted (record { outcome = 2; total = 14; change = 6 }); masses = 6 ∷ 8 ∷ [] }
-    ∷ record { given = e4 20 (2 ∷ 2 ∷ 2 ∷ []); told = accepted (record { outcome = 2; total = 20; change = 12 }); masses = 10 ∷ 10 ∷ [] }
-    ∷ record { given = e4 21 (2 ∷ 2 ∷ 2 ∷ []); told = refused 8 0; masses = 9 ∷ 9 ∷ [] }
-    ∷ record { given = e4 4 (2 ∷ 2 ∷ []); told = refused 4 0; masses = 9 ∷ 9 ∷ [] }
-    ∷ record { given = e8; told = accepted (record { outcome = 2; total = 7; change = 4 }); masses = 7 ∷ [] }
+    record { given = flat; told = accepted (record { outcome = 0; total = 16; change = 4 }); masses = 0 ∷ 8 ∷ 4 ∷ 4 ∷ [] }
+    ∷ record { given = clipping; told = accepted (record { outcome = 0; total = 10; change = 8 }); masses = 0 ∷ 5 ∷ 5 ∷ [] }
+    ∷ record { given = equal 8; told = accepted (record { outcome = 0; total = 8; change = 0 }); masses = 3 ∷ 5 ∷ [] }
+    ∷ record { given = equal 10; told = accepted (record { outcome = 0; total = 10; change = 2 }); masses = 4 ∷ 6 ∷ [] }
     ∷ []
 
 abbrev pub got : Row → Row
@@ -55,7 +58,7 @@ got r =
       masses = after (verdict (r .given)) (treeMasses (field (r .given .lists)) (r .given .total)) (r .given .masses);
     }
 
--- what the definitions give is what 01 says, in every row
-pub examples : map got rows ≡ rows
+-- what the definitions give, in every row
+pub strays : map got rows ≡ rows
 unfolding sumTo listTo minℤ maxℤ quota eachFrom firstFrom checkCount clip clipped deficit capacity portion firstShare remainder left secondShare shares result leads childOf anyChild nodeSum parentOk nodeOk massFrom massAt outcome number lowIn highIn changeOf groupOf treeMass treeMasses checkNodes checkLists checkTree boundsOrdered checkOrder checkSum checkReach shapeChecks valueChecks verdict repair
-examples = refl
+strays = refl

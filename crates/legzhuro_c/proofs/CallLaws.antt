@@ -1,0 +1,226 @@
+-- From an operation's contract to what its call returns and writes, accepted or refused. Assumes nothing.
+use mathlib.Core.Path.{_≡_, refl, sym, _∙_, ap}
+use mathlib.Core.List.{List, [], _∷_}
+use Prim.Native.Nat.{ℕ, _+_, _*_, _≤_, _<_, _^_}
+use borrow.Author.Tests.{le-leb, lt-leb}
+use lib.IntN.{ℤ}
+use lib.ListN.{length}
+use lib.Ieee.{Float}
+use Rattle.numbers.specs.declared.Checked.{Checked}
+use Rattle.numbers.specs.declared.Checked.the-variants.{Pass, Fail}
+use Rattle.numbers.specs.Lists.{written}
+use Rattle.numbers.specs.Checks.{refused, after, both, first, checkCount, checkLong}
+use Rattle.numbers.proofs.CheckLaws.{answered-accepted, answered-refused, both-pass, both-first, both-second, long-decides}
+use Rattle.columns.specs.Columns.{width}
+use Rattle.caas.specs.declared.SplitAnswer.{SplitAnswer}
+use Rattle.caas.specs.declared.SplitAnswer.the-variants as split
+use Rattle.caas.specs.Operation.{SplitCall, splitVerdict, splitTells, SplitContract}
+use Rattle.qlt.specs.declared.Repair.{Repair}
+use Rattle.qlt.specs.Field.{cells, nodes, field}
+use Rattle.qlt.specs.Masses.{treeMasses}
+use Rattle.qlt.specs.Checks.{sum, checkNodes}
+use Rattle.qlt.specs.Operation.{repair, cleared}
+use Rattle.account.specs.declared.Opened.{Opened}
+use Rattle.account.specs.declared.Opened.the-variants as opened
+use Rattle.account.specs.declared.Stepped.{Stepped}
+use Rattle.account.specs.declared.Stepped.the-variants as stepped
+use Rattle.account.specs.Open.{openVerdict, openTells, OpenContract}
+use Rattle.account.specs.Step.{StepCall, newTotal, stepVerdict, stepTells, StepContract}
+use Rattle.conversion.specs.declared.CellDoubles.{CellDoubles}
+use Rattle.conversion.specs.declared.CellUnits.{CellUnits}
+use Rattle.conversion.specs.declared.Imported.{Imported}
+use Rattle.conversion.specs.declared.Imported.the-variants as imported
+use Rattle.conversion.specs.declared.Exported.{Exported}
+use Rattle.conversion.specs.declared.Exported.the-variants as exported
+use Rattle.conversion.specs.Import.{importVerdict, importUnits, importTells, ImportContract}
+use Rattle.conversion.specs.Export.{exportVerdict, exportDouble, exportTells, ExportContract}
+use Rattle.legzhuro_c.specs.Calls.{returned, SplitReturns, openCallVerdict, OpenReturns, stepCallVerdict, repairWords, StepReturns, importCallVerdict, unitsList, ImportReturns, exportCallVerdict, ExportReturns}
+
+-- ---- what a verdict makes of the return value and of a lent list
+
+module _ {v : Checked} where
+  returned-pass : {r : ℕ} → v ≡ Pass → r ≡ 0 → r ≡ returned v
+  returned-pass e z = z ∙ ap returned (sym e)
+
+  returned-fail : {r number place : ℕ} → v ≡ Fail number place → r ≡ number + place * 2 ^ 32 → r ≡ returned v
+  returned-fail e z = z ∙ ap returned (sym e)
+
+  after-pass : {X : Type 0} {x new : X} (old : X) → v ≡ Pass → x ≡ new → x ≡ after v new old
+  after-pass {new = new} old e z = z ∙ ap (λ w. after w new old) (sym e)
+
+  after-fail : {X : Type 0} (new old : X) {number place : ℕ} → v ≡ Fail number place → old ≡ after v new old
+  after-fail new old e = ap (λ w. after w new old) (sym e)
+
+pub after-by : {X : Type 0} {v w : Checked} (new old : X) → v ≡ w → after v new old ≡ after w new old
+after-by new old e = ap (λ x. after x new old) e
+
+-- ---- a lent list with room, and one without
+
+pub long-passes : (k n : ℕ) → n ≤ k → checkLong k n ≡ Pass
+unfolding checkLong
+long-passes k n h = rw (le-leb n k h)
+
+pub long-fails : (k n : ℕ) → k < n → checkLong k n ≡ Fail 3 0
+unfolding checkLong
+long-fails k n h = rw (lt-leb n k h)
+
+-- the room first, and then the operation's own verdict
+module _ (k n : ℕ) (v : Checked) where
+  pub room : n ≤ k → first (checkLong k n ∷ v ∷ []) ≡ v
+  room h = ap (λ w. both w (both v Pass)) (long-passes k n h) ∙ both-pass v
+
+  pub no-room : k < n → first (checkLong k n ∷ v ∷ []) ≡ Fail 3 0
+  no-room h = ap (λ w. both w (both v Pass)) (long-fails k n h)
+
+-- ---- Split
+
+module _ {c : SplitCall} {a : SplitAnswer} {masses : List ℤ} (p : SplitContract c a masses) where
+  pub split-done : a ≡ split.Done → SplitReturns c 0 masses
+  unfolding splitTells
+  split-done e =
+      let v = answered-accepted (splitVerdict c) tt tt (ap splitTells (sym e) ∙ p .answers) .0 in
+      record { returns = ap returned (sym v); writes = p .writes }
+
+  pub split-refused : {r number place : ℕ} → a ≡ split.Refused number place → r ≡ number + place * 2 ^ 32 → SplitReturns c r masses
+  unfolding splitTells
+  split-refused {number = number} {place = place} e z =
+      let v = answered-refused (splitVerdict c) tt number place (ap splitTells (sym e) ∙ p .answers) in
+      record { returns = returned-fail v z; writes = p .writes }
+
+-- ---- Open
+
+module _ (kept answer : List ℕ) where
+  pub open-no-room : length answer < 1 → OpenReturns kept answer 3 answer
+  unfolding openCallVerdict
+  open-no-room h =
+      let v = no-room (length answer) 1 (openVerdict kept) h in
+      record { returns = ap returned (sym v); writes = after-fail _ answer v }
+
+  module _ {a : Opened} (p : OpenContract kept a) (h : 1 ≤ length answer) where
+    pub open-done : {total r : ℕ} {answer′ : List ℕ} → a ≡ opened.Total total → r ≡ 0 → answer′ ≡ written answer 0 (total ∷ []) → OpenReturns kept answer r answer′
+    unfolding openTells openCallVerdict
+    open-done {total} e z w =
+        let t = answered-accepted (openVerdict kept) total (sum kept) (ap openTells (sym e) ∙ p .answers) in
+        let v = room (length answer) 1 (openVerdict kept) h ∙ t .0 in
+        record { returns = returned-pass v z; writes = after-pass answer v (w ∙ ap (λ x. written answer 0 (x ∷ [])) (t .1)) }
+
+    pub open-refused : {r number place : ℕ} → a ≡ opened.Refused number place → r ≡ number + place * 2 ^ 32 → OpenReturns kept answer r answer
+    unfolding openTells openCallVerdict
+    open-refused {number = number} {place = place} e z =
+        let v = room (length answer) 1 (openVerdict kept) h ∙ answered-refused (openVerdict kept) (sum kept) number place (ap openTells (sym e) ∙ p .answers) in
+        record { returns = returned-fail v z; writes = after-fail _ answer v }
+
+-- ---- Step
+
+-- the checks of its shape, and then the operation's own verdict
+abbrev pub stepShape : StepCall → List ℕ → Checked
+stepShape c answer = first (checkCount (cells (c .lists)) ∷ checkNodes (cells (c .lists)) (nodes (c .lists)) ∷ checkLong (length answer) 3 ∷ [])
+
+module _ (c : StepCall) (answer : List ℕ) where
+  step-chain : stepCallVerdict c answer ≡ both (stepShape c answer) (stepVerdict c)
+  unfolding stepCallVerdict
+  step-chain = go (checkCount (cells (c .lists))) (checkNodes (cells (c .lists)) (nodes (c .lists))) (checkLong (length answer) 3) (stepVerdict c)
+    where
+      go : (s t u w : Checked) → both s (both t (both u (both w Pass))) ≡ both (both s (both t (both u Pass))) w
+      go Pass Pass Pass w = both-pass w
+      go Pass Pass (Fail n p) w = refl
+      go Pass (Fail n p) u w = refl
+      go (Fail n p) t u w = refl
+
+  pub step-shape-refused : {r number place : ℕ} → stepShape c answer ≡ Fail number place → r ≡ number + place * 2 ^ 32 → StepReturns c answer r (c .kept) (c .scratch) answer
+  step-shape-refused e z =
+      let v = step-chain ∙ ap (λ w. both w (stepVerdict c)) e in
+      record { returns = returned-fail v z; keeps = after-fail _ (c .kept) v; leaves = after-fail _ (c .scratch) v; writes = after-fail _ answer v }
+
+  module _ (e : stepShape c answer ≡ Pass) where
+    -- a call that passes them has room for its values
+    pub step-room : 3 ≤ length answer
+    step-room =
+        long-decides (length answer) 3 .passes .0
+        (both-first _ Pass (both-second (checkNodes (cells (c .lists)) (nodes (c .lists))) _ (both-second (checkCount (cells (c .lists))) _ e)))
+
+    past-shape : stepCallVerdict c answer ≡ stepVerdict c
+    past-shape = step-chain ∙ ap (λ w. both w (stepVerdict c)) e
+
+    module _ {a : Stepped} {kept : List ℕ} {scratch : List ℤ} (p : StepContract c a kept scratch) where
+      keeps-on : kept ≡ after (stepCallVerdict c answer) (treeMasses (field (c .lists)) (newTotal c)) (c .kept)
+      keeps-on = p .keeps ∙ after-by (treeMasses (field (c .lists)) (newTotal c)) (c .kept) (sym past-shape)
+
+      leaves-on : scratch ≡ after (stepCallVerdict c answer) (cleared (width * nodes (c .lists)) (c .scratch)) (c .scratch)
+      leaves-on = p .leaves ∙ after-by (cleared (width * nodes (c .lists)) (c .scratch)) (c .scratch) (sym past-shape)
+
+      pub step-done :
+          {x : Repair} {r : ℕ} {answer′ : List ℕ} → a ≡ stepped.Accepted x → r ≡ 0 → answer′ ≡ written answer 0 (repairWords x)
+          → StepReturns c answer r kept scratch answer′
+      unfolding stepTells
+      step-done {x} s z w =
+          let t = answered-accepted (stepVerdict c) x (repair (c .lists) (newTotal c)) (ap stepTells (sym s) ∙ p .answers) in
+          let v = past-shape ∙ t .0 in
+          record {
+            returns = returned-pass v z;
+            keeps = keeps-on;
+            leaves = leaves-on;
+            writes = after-pass answer v (w ∙ ap (λ y. written answer 0 (repairWords y)) (t .1));
+          }
+
+      pub step-refused : {r number place : ℕ} → a ≡ stepped.Refused number place → r ≡ number + place * 2 ^ 32 → StepReturns c answer r kept scratch answer
+      unfolding stepTells
+      step-refused {number = number} {place = place} s z =
+          let v = past-shape ∙ answered-refused (stepVerdict c) (repair (c .lists) (newTotal c)) number place (ap stepTells (sym s) ∙ p .answers) in
+          record { returns = returned-fail v z; keeps = keeps-on; leaves = leaves-on; writes = after-fail _ answer v }
+
+-- ---- Import
+
+module _ (c : CellDoubles) (k : ℕ) (units : List ℤ) where
+  pub import-no-room : length units < 5 → ImportReturns c k units 3 units
+  unfolding importCallVerdict
+  import-no-room h =
+      let v = no-room (length units) 5 (importVerdict c k) h in
+      record { returns = ap returned (sym v); writes = after-fail _ units v }
+
+  module _ {a : Imported} (p : ImportContract c k a) (h : 5 ≤ length units) where
+    pub import-done :
+        {x : CellUnits} {r : ℕ} {units′ : List ℤ} → a ≡ imported.Units x → r ≡ 0 → units′ ≡ written units 0 (unitsList x) → ImportReturns c k units r units′
+    unfolding importTells importCallVerdict
+    import-done {x} e z w =
+        let t = answered-accepted (importVerdict c k) x (importUnits c k) (ap importTells (sym e) ∙ p .answers) in
+        let v = room (length units) 5 (importVerdict c k) h ∙ t .0 in
+        record { returns = returned-pass v z; writes = after-pass units v (w ∙ ap (λ y. written units 0 (unitsList y)) (t .1)) }
+
+    -- a refusal, of the scale or of a field, by what it tells
+    import-told : {r number place : ℕ} → importTells a ≡ refused number place → r ≡ number + place * 2 ^ 32 → ImportReturns c k units r units
+    unfolding importCallVerdict
+    import-told {number = number} {place = place} e z =
+        let v = room (length units) 5 (importVerdict c k) h ∙ answered-refused (importVerdict c k) (importUnits c k) number place (sym e ∙ p .answers) in
+        record { returns = returned-fail v z; writes = after-fail _ units v }
+
+    pub import-bad-scale : a ≡ imported.BadScale → ImportReturns c k units 9 units
+    unfolding importTells
+    import-bad-scale e = import-told (ap importTells e) refl
+
+    pub import-refused : {r number place : ℕ} {double : Float} → a ≡ imported.Refused number place double → r ≡ number + place * 2 ^ 32 → ImportReturns c k units r units
+    unfolding importTells
+    import-refused e z = import-told (ap importTells e) z
+
+-- ---- Export
+
+module _ (mass k : ℕ) (value : List Float) where
+  pub export-no-room : length value < 1 → ExportReturns mass k value 3 value
+  unfolding exportCallVerdict
+  export-no-room h =
+      let v = no-room (length value) 1 (exportVerdict mass k) h in
+      record { returns = ap returned (sym v); writes = after-fail _ value v }
+
+  module _ {a : Exported} (p : ExportContract mass k a) (h : 1 ≤ length value) where
+    pub export-done : {x : Float} {r : ℕ} {value′ : List Float} → a ≡ exported.Double x → r ≡ 0 → value′ ≡ written value 0 (x ∷ []) → ExportReturns mass k value r value′
+    unfolding exportTells exportCallVerdict
+    export-done {x} e z w =
+        let t = answered-accepted (exportVerdict mass k) x (exportDouble mass k) (ap exportTells (sym e) ∙ p .answers) in
+        let v = room (length value) 1 (exportVerdict mass k) h ∙ t .0 in
+        record { returns = returned-pass v z; writes = after-pass value v (w ∙ ap (λ y. written value 0 (y ∷ [])) (t .1)) }
+
+    pub export-refused : {r number place : ℕ} → a ≡ exported.Refused number place → r ≡ number + place * 2 ^ 32 → ExportReturns mass k value r value
+    unfolding exportTells exportCallVerdict
+    export-refused {number = number} {place = place} e z =
+        let v = room (length value) 1 (exportVerdict mass k) h ∙ answered-refused (exportVerdict mass k) (exportDouble mass k) number place (ap exportTells (sym e) ∙ p .answers) in
+        record { returns = returned-fail v z; writes = after-fail _ value v }

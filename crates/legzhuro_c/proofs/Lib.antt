@@ -1,0 +1,4 @@
+pub mod CallLaws
+pub mod FileCallLaws
+pub mod OwnLaws
+pub mod RunLaws

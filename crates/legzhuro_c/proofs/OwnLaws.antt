@@ -1,0 +1,352 @@
+-- Each call has its operation's own contract, read off the return value and the lent list; with a list that is too short it writes
+-- nothing. Assumes nothing.
+use mathlib.Core.Path.{_≡_, refl, sym, _∙_, ap, ap₂}
+use mathlib.Core.Logic.{_⊎_, inl, inr, ⊎-elim}
+use mathlib.Core.Bool.{Bool, true, false, _&&_, cond}
+use mathlib.Core.List.{List, [], _∷_}
+use Prim.Native.Nat.{ℕ, zero, suc, _+_, _*_, _/_, _%_, _^_, _≤_, _<_}
+use native.Mathlib.Omega.{arith}
+use lib.Dec.{ltb, leb, eqb}
+use lib.IntN.{ℤ}
+use lib.ListN.{length}
+use lib.Ieee.{Float}
+use Rattle.numbers.specs.declared.Checked.{Checked}
+use Rattle.numbers.specs.declared.Checked.the-variants.{Pass, Fail}
+use Rattle.numbers.specs.Lists.{at, written}
+use Rattle.numbers.specs.Checks.{Answered, accepted, refused, answered, unless, both, checkCount, checkLong, Rule, Broken}
+use Rattle.numbers.proofs.TestLaws.{eq-means}
+use Rattle.numbers.proofs.CheckLaws.{both-pass}
+use Rattle.caas.specs.Operation.{SplitCall, splitVerdict, splitRules, splitTells, SplitContract}
+use Rattle.caas.proofs.OperationLaws.{refuses}
+use Rattle.qlt.specs.declared.Repair.{Repair}
+use Rattle.qlt.specs.Field.{cells, nodes}
+use Rattle.qlt.specs.Checks.{sum, checkNodes, shapeChecks}
+use Rattle.qlt.specs.Operation.{fieldRules, repair}
+use Rattle.account.specs.Open.{openVerdict, openRules, openTells, OpenContract}
+use Rattle.account.specs.Step.{StepCall, newTotal, stepVerdict, stepRules, stepTells, StepContract}
+use Rattle.account.proofs.OpenLaws.{open-refuses}
+use Rattle.account.proofs.StepLaws.{step-refuses}
+use Rattle.conversion.specs.declared.CellDoubles.{CellDoubles}
+use Rattle.conversion.specs.declared.CellUnits.{CellUnits}
+use Rattle.conversion.specs.declared.Imported.the-variants.{BadScale, Refused}
+use Rattle.conversion.specs.Import.{doubleAt, importVerdict, importRules, importUnits, importTells, importHolds, carried, ImportContract}
+use Rattle.conversion.specs.Export.{exportVerdict, exportRules, exportDouble, exportTells, ExportContract}
+use Rattle.conversion.proofs.ImportLaws.{import-refuses}
+use Rattle.conversion.proofs.ExportLaws.{export-refuses, export-meets}
+use Rattle.legzhuro_c.specs.Calls.{returned, told, SplitReturns, openCallVerdict, OpenReturns, stepCallVerdict, repairWords, StepReturns, importCallVerdict, unitsList, ImportReturns, exportCallVerdict, ExportReturns, splitAnswer, openAnswer, repairIn, stepAnswer, unitsIn, importAnswer, exportAnswer, doubleIn}
+use Rattle.legzhuro_c.proofs.CallLaws.{after-by, long-passes, long-fails, room, no-room}
+
+-- ---- a return value tells its verdict
+
+-- a refusal's number fits the low 32 bits and is not 0
+abbrev pub InWord : ℕ → Type 0
+InWord number = (0 < number) × (number < 2 ^ 32)
+
+abbrev pub Numbered : Checked → Type 0
+Numbered v = (number place : ℕ) → v ≡ Fail number place → InWord number
+
+told-refused : {X : Type 0} (r : ℕ) (x : X) → 0 < r → told r x ≡ refused (r % 2 ^ 32) (r / 2 ^ 32)
+told-refused zero x h = absurd (omega arith)
+told-refused (suc r) x h = refl
+
+pub told-returned : {X : Type 0} (v : Checked) (x : X) → Numbered v → told (returned v) x ≡ answered v x
+told-returned Pass x h = refl
+told-returned (Fail number place) x h =
+    let b = h number place refl in
+    let low : (number + place * 2 ^ 32) % 2 ^ 32 ≡ number = omega (arith, b) in
+    let high : (number + place * 2 ^ 32) / 2 ^ 32 ≡ place = omega (arith, b) in
+    told-refused (number + place * 2 ^ 32) x (omega (arith, b)) ∙ ap₂ refused low high
+
+-- and, where the call is accepted, the values that the lent list holds
+pub told-own : {X : Type 0} (v : Checked) (r : ℕ) (x y : X) → Numbered v → r ≡ returned v → (v ≡ Pass → x ≡ y) → told r x ≡ answered v y
+told-own v r x y h e f = ap (λ n. told n x) e ∙ told-returned v x h ∙ same v f
+  where
+    same : (w : Checked) → (w ≡ Pass → x ≡ y) → answered w x ≡ answered w y
+    same Pass g = ap accepted (g refl)
+    same (Fail number place) g = refl
+
+-- ---- what every refusal by rules has, if each rule's own has it
+
+abbrev pub Faults : (ℕ → ℕ → Type 0) → List Rule → Type 0
+Faults Q [] = Unit
+Faults Q (r ∷ rs) = ((number place : ℕ) → r .fault number place → Q number place) × Faults Q rs
+
+pub broken-each : (Q : ℕ → ℕ → Type 0) (rs : List Rule) → Faults Q rs → (number place : ℕ) → Broken rs number place → Q number place
+unfolding Broken
+broken-each Q [] f number place b = absurd b
+broken-each Q (r ∷ rs) f number place b = ⊎-elim (λ x. f .0 number place x) (λ y. broken-each Q rs (f .1) number place (y .1)) b
+
+abbrev Words : List Rule → Type 0
+Words = Faults (λ number place. InWord number)
+
+-- ---- Split
+
+split-words : (c : SplitCall) → Words (splitRules c)
+unfolding splitRules
+split-words c = (
+  λ n p f. omega (arith, f .0 .0),
+  (λ n p f. omega (arith, f .0 .0), (λ n p f. omega (arith, f .0 .0), (λ n p f. omega (arith, f .0 .0), (λ n p f. omega (arith, f .0 .0), (λ n p f. omega (arith, f .0 .0), tt))))),
+)
+
+pub split-numbered : (c : SplitCall) → Numbered (splitVerdict c)
+split-numbered c n p e = broken-each _ (splitRules c) (split-words c) n p (refuses c n p .0 e)
+
+split-tells : (a : Answered Unit) → splitTells (splitAnswer a) ≡ a
+unfolding splitTells
+split-tells (accepted u) = refl
+split-tells (refused number place) = refl
+
+pub split-own : (c : SplitCall) (r : ℕ) (masses : List ℤ) → SplitReturns c r masses → SplitContract c (splitAnswer (told r tt)) masses
+split-own c r masses q =
+    record {
+      answers = split-tells (told r tt) ∙ told-own (splitVerdict c) r tt tt (split-numbered c) (q .returns) (λ e. refl);
+      writes = q .writes;
+    }
+
+-- ---- Open
+
+open-words : (kept : List ℕ) → Words (openRules kept)
+unfolding openRules
+open-words kept = (λ n p f. omega (arith, f .0 .0), (λ n p f. omega (arith, f .0 .0), tt))
+
+pub open-numbered : (kept : List ℕ) → Numbered (openVerdict kept)
+open-numbered kept n p e = broken-each _ (openRules kept) (open-words kept) n p (open-refuses kept n p .0 e)
+
+open-tells : (a : Answered ℕ) → openTells (openAnswer a) ≡ a
+unfolding openTells
+open-tells (accepted t) = refl
+open-tells (refused number place) = refl
+
+total-read : (answer : List ℕ) (t : ℕ) → at (written answer 0 (t ∷ [])) 0 ≡ t
+unfolding written
+total-read answer t = refl
+
+module _ (kept answer : List ℕ) (r : ℕ) (answer′ : List ℕ) where
+  pub open-own : 1 ≤ length answer → OpenReturns kept answer r answer′ → OpenContract kept (openAnswer (told r (at answer′ 0)))
+  unfolding openCallVerdict
+  open-own h q =
+      let v = room (length answer) 1 (openVerdict kept) h in
+      record {
+        answers =
+            open-tells (told r (at answer′ 0))
+            ∙ told-own (openVerdict kept) r (at answer′ 0) (sum kept) (open-numbered kept) (q .returns ∙ ap returned v)
+            (λ e. ap (λ l. at l 0) (q .writes ∙ after-by (written answer 0 (sum kept ∷ [])) answer (v ∙ e)) ∙ total-read answer (sum kept));
+      }
+
+  pub open-short : length answer < 1 → OpenReturns kept answer r answer′ → (r ≡ 3) × (answer′ ≡ answer)
+  unfolding openCallVerdict
+  open-short h q =
+      let v = no-room (length answer) 1 (openVerdict kept) h in
+      (q .returns ∙ ap returned v, q .writes ∙ after-by (written answer 0 (sum kept ∷ [])) answer v)
+
+-- ---- Step
+
+step-words : (c : StepCall) → Words (stepRules c)
+unfolding fieldRules
+step-words c = (
+  λ n p f. omega (arith, f .0 .0),
+  (
+    λ n p f. omega (arith, f .0 .0),
+    (
+      λ n p f. omega (arith, f .0 .0),
+      (
+        λ n p f. omega (arith, f .0 .0),
+        (
+          λ n p f. omega (arith, f .0 .0),
+          (
+            λ n p f. omega (arith, f .0 .0),
+            (
+              λ n p f. omega (arith, f .0 .0),
+              (λ n p f. omega (arith, f .0 .0), (λ n p f. omega (arith, f .0 .0), (λ n p f. omega (arith, f .0 .0), tt))),
+            ),
+          ),
+        ),
+      ),
+    ),
+  ),
+)
+
+pub step-numbered : (c : StepCall) → Numbered (stepVerdict c)
+step-numbered c n p e = broken-each _ (stepRules c) (step-words c) n p (step-refuses c n p .0 e)
+
+step-tells : (a : Answered Repair) → stepTells (stepAnswer a) ≡ a
+unfolding stepTells
+step-tells (accepted r) = refl
+step-tells (refused number place) = refl
+
+repair-read : (answer : List ℕ) (x : Repair) → repairIn (written answer 0 (repairWords x)) ≡ x
+unfolding written
+repair-read answer x = refl
+
+module _ (c : StepCall) (answer : List ℕ) where
+  -- with room for its values, the call's verdict is Step's: 1 and 2 stand in it once more
+  step-long : 3 ≤ length answer → stepCallVerdict c answer ≡ stepVerdict c
+  unfolding stepCallVerdict stepVerdict shapeChecks
+  step-long h =
+      ap (λ w. both (checkCount (cells (c .lists))) (both (checkNodes (cells (c .lists)) (nodes (c .lists))) (both w (both (stepVerdict c) Pass)))) (long-passes (length answer) 3 h)
+      ∙ again (checkCount (cells (c .lists))) (checkNodes (cells (c .lists)) (nodes (c .lists))) _ _
+    where
+      again : (s t u w : Checked) → both s (both t (both (both (both s (both t u)) w) Pass)) ≡ both (both s (both t u)) w
+      again Pass Pass u w = both-pass (both u w)
+      again Pass (Fail number place) u w = refl
+      again (Fail number place) t u w = refl
+
+  -- without it, the call is refused with 1, 2 or 3
+  step-no-room : length answer < 3 → (number : ℕ) × ((stepCallVerdict c answer ≡ Fail number 0) × ((number ≡ 1) ⊎ ((number ≡ 2) ⊎ (number ≡ 3))))
+  unfolding stepCallVerdict checkCount checkNodes
+  step-no-room h =
+      let n = cells (c .lists) in
+      let m = nodes (c .lists) in
+      go (ltb 0 n && leb n 512) (leb n m && leb m 1024) (checkLong (length answer) 3) (long-fails (length answer) 3 h) (both (stepVerdict c) Pass)
+    where
+      go : (a b : Bool) (v : Checked) → v ≡ Fail 3 0 → (w : Checked) → (number : ℕ) × ((both (unless a 1 0) (both (unless b 2 0) (both v w)) ≡ Fail number 0) × ((number ≡ 1) ⊎ ((number ≡ 2) ⊎ (number ≡ 3))))
+      go false b v e w = (1, (refl, inl refl))
+      go true false v e w = (2, (refl, inr (inl refl)))
+      go true true v e w = (3, (ap (λ x. both x w) e, inr (inr refl)))
+
+  module _ (r : ℕ) (kept : List ℕ) (scratch : List ℤ) (answer′ : List ℕ) where
+    pub step-own : 3 ≤ length answer → StepReturns c answer r kept scratch answer′ → StepContract c (stepAnswer (told r (repairIn answer′))) kept scratch
+    step-own h q =
+        let v = step-long h in
+        let x = repair (c .lists) (newTotal c) in
+        record {
+          answers =
+              step-tells (told r (repairIn answer′))
+              ∙ told-own (stepVerdict c) r (repairIn answer′) x (step-numbered c) (q .returns ∙ ap returned v)
+              (λ e. ap repairIn (q .writes ∙ after-by (written answer 0 (repairWords x)) answer (v ∙ e)) ∙ repair-read answer x);
+          keeps = q .keeps ∙ after-by _ (c .kept) v;
+          leaves = q .leaves ∙ after-by _ (c .scratch) v;
+        }
+
+    pub step-short : length answer < 3 → StepReturns c answer r kept scratch answer′ → (kept ≡ c .kept) × ((scratch ≡ c .scratch) × (answer′ ≡ answer))
+    step-short h q =
+        let v = step-no-room h .1 .0 in
+        (q .keeps ∙ after-by _ (c .kept) v, (q .leaves ∙ after-by _ (c .scratch) v, q .writes ∙ after-by _ answer v))
+
+    pub step-short-returns : length answer < 3 → StepReturns c answer r kept scratch answer′ → (r ≡ 1) ⊎ ((r ≡ 2) ⊎ (r ≡ 3))
+    step-short-returns h q =
+        let n = step-no-room h in
+        let e : r ≡ n .0 = q .returns ∙ ap returned (n .1 .0) ∙ omega arith in
+        ⊎-elim (λ x. inl (e ∙ x)) (λ y. ⊎-elim (λ x. inr (inl (e ∙ x))) (λ x. inr (inr (e ∙ x))) y) (n .1 .1)
+
+-- ---- Import
+
+-- number 9 has the place 0
+abbrev ImportFault : ℕ → ℕ → Type 0
+ImportFault number place = InWord number × (number ≡ 9 → place ≡ 0)
+
+import-faults : (c : CellDoubles) (k : ℕ) → Faults ImportFault (importRules c k)
+unfolding importRules
+import-faults c k = (
+  λ n p f. (omega (arith, f .0 .0), λ e. f .0 .1),
+  (
+    λ n p f. ten (f .0 .0),
+    (
+      λ n p f. eleven (f .0 .0),
+      (
+        λ n p f. ten (f .0 .0),
+        (
+          λ n p f. eleven (f .0 .0),
+          (
+            λ n p f. ten (f .0 .0),
+            (
+              λ n p f. eleven (f .0 .0),
+              (λ n p f. ten (f .0 .0), (λ n p f. eleven (f .0 .0), (λ n p f. ten (f .0 .0), (λ n p f. eleven (f .0 .0), tt)))),
+            ),
+          ),
+        ),
+      ),
+    ),
+  ),
+)
+  where
+    ten : {n p : ℕ} → n ≡ 10 → ImportFault n p
+    ten e = (omega (arith, e), λ x. absurd (omega (arith, e, x)))
+
+    eleven : {n p : ℕ} → n ≡ 11 → ImportFault n p
+    eleven e = (omega (arith, e), λ x. absurd (omega (arith, e, x)))
+
+import-fault : (c : CellDoubles) (k number place : ℕ) → importVerdict c k ≡ Fail number place → ImportFault number place
+import-fault c k n p e = broken-each ImportFault (importRules c k) (import-faults c k) n p (import-refuses c k n p .0 e)
+
+pub import-numbered : (c : CellDoubles) (k : ℕ) → Numbered (importVerdict c k)
+import-numbered c k n p e = import-fault c k n p e .0
+
+import-tells : (v : Checked) (c : CellDoubles) (u : CellUnits) → ((place : ℕ) → v ≡ Fail 9 place → place ≡ 0) → importTells (importAnswer (answered v u) c) ≡ answered v u
+unfolding importTells
+import-tells Pass c u h = refl
+import-tells (Fail number place) c u h = go (eqb number 9) refl
+  where
+    go : (b : Bool) → eqb number 9 ≡ b → importTells (cond b BadScale (Refused number place (doubleAt c place))) ≡ refused number place
+    go true e =
+        let n = eq-means number 9 .0 e in
+        ap₂ refused (sym n) (sym (h place (ap (λ x. Fail x place) n)))
+    go false e = refl
+
+import-holds : (v : Checked) (c : CellDoubles) (u : CellUnits) → importHolds (importAnswer (answered v u) c) ≡ carried v c
+unfolding importHolds carried
+import-holds Pass c u = refl
+import-holds (Fail number place) c u = go (eqb number 9)
+  where
+    go : (b : Bool) → importHolds (cond b BadScale (Refused number place (doubleAt c place))) ≡ cond b [] (doubleAt c place ∷ [])
+    go true = refl
+    go false = refl
+
+units-read : (units : List ℤ) (u : CellUnits) → unitsIn (written units 0 (unitsList u)) ≡ u
+unfolding written
+units-read units u = refl
+
+module _ (c : CellDoubles) (k : ℕ) (units : List ℤ) (r : ℕ) (units′ : List ℤ) where
+  pub import-own : 5 ≤ length units → ImportReturns c k units r units′ → ImportContract c k (importAnswer (told r (unitsIn units′)) c)
+  unfolding importCallVerdict
+  import-own h q =
+      let v = room (length units) 5 (importVerdict c k) h in
+      let u = importUnits c k in
+      let t =
+      told-own (importVerdict c k) r (unitsIn units′) u (import-numbered c k) (q .returns ∙ ap returned v)
+      (λ e. ap unitsIn (q .writes ∙ after-by (written units 0 (unitsList u)) units (v ∙ e)) ∙ units-read units u) in
+      record {
+        answers = ap (λ a. importTells (importAnswer a c)) t ∙ import-tells (importVerdict c k) c u (λ place e. import-fault c k 9 place e .1 refl);
+        carries = ap (λ a. importHolds (importAnswer a c)) t ∙ import-holds (importVerdict c k) c u;
+      }
+
+  pub import-short : length units < 5 → ImportReturns c k units r units′ → (r ≡ 3) × (units′ ≡ units)
+  unfolding importCallVerdict
+  import-short h q =
+      let v = no-room (length units) 5 (importVerdict c k) h in
+      (q .returns ∙ ap returned v, q .writes ∙ after-by _ units v)
+
+-- ---- Export
+
+export-words : (mass k : ℕ) → Words (exportRules mass k)
+unfolding exportRules
+export-words mass k = (λ n p f. omega (arith, f .0 .0), (λ n p f. omega (arith, f .0 .0), tt))
+
+pub export-numbered : (mass k : ℕ) → Numbered (exportVerdict mass k)
+export-numbered mass k n p e = broken-each _ (exportRules mass k) (export-words mass k) n p (export-refuses mass k n p .0 e)
+
+export-tells : (a : Answered Float) → exportTells (exportAnswer a) ≡ a
+unfolding exportTells
+export-tells (accepted x) = refl
+export-tells (refused number place) = refl
+
+double-read : (value : List Float) (x : Float) → doubleIn (written value 0 (x ∷ [])) ≡ x
+unfolding written
+double-read value x = refl
+
+module _ (mass k : ℕ) (value : List Float) (r : ℕ) (value′ : List Float) where
+  pub export-own : 1 ≤ length value → ExportReturns mass k value r value′ → ExportContract mass k (exportAnswer (told r (doubleIn value′)))
+  unfolding exportCallVerdict
+  export-own h q =
+      let v = room (length value) 1 (exportVerdict mass k) h in
+      let x = exportDouble mass k in
+      export-meets mass k (exportAnswer (told r (doubleIn value′)))
+      (export-tells (told r (doubleIn value′))
+      ∙ told-own (exportVerdict mass k) r (doubleIn value′) x (export-numbered mass k) (q .returns ∙ ap returned v)
+      (λ e. ap doubleIn (q .writes ∙ after-by (written value 0 (x ∷ [])) value (v ∙ e)) ∙ double-read value x))
+
+  pub export-short : length value < 1 → ExportReturns mass k value r value′ → (r ≡ 3) × (value′ ≡ value)
+  unfolding exportCallVerdict
+  export-short h q =
+      let v = no-room (length value) 1 (exportVerdict mass k) h in
+      (q .returns ∙ ap returned v, q .writes ∙ after-by _ value v)

@@ -1,0 +1,107 @@
+-- `legzhuro_c::legzhuro_step` meets its contract: its shape first, and then what Step tells is returned and written.
+use mathlib.Core.Path.{_≡_, sym, _∙_, subst}
+use lib.IntN.{ℤ}
+use mir.Syntax.{w32}
+use mir.ValLaws.{toZ-ofZ}
+use Rattle.numbers.specs.declared.Checked.the-variants.{Pass}
+use Rattle.qlt.specs.Field.{lists}
+use Rattle.account.specs.Step.{StepCall, stepCall, StepContract}
+use Rattle.legzhuro_c.proofs.CallLaws.{stepShape, step-shape-refused, step-room, step-done, step-refused}
+use borrow.Author.Needs.{needs}
+use Rattle.legzhuro_c.proofs.legzhuro_step.Statement.{statement}
+use Rattle.legzhuro_c.proofs.legzhuro_step.Tie as tie
+
+abbrev givenAt : tie.Start → ℤ → StepCall
+givenAt c source = stepCall (c .args .total) (c .args .kept .now) source (lists (c .args .targets .now) (c .args .lows .now) (c .args .highs .now) (c .args .safe-lows .now) (c .args .safe-highs .now) (c .args .weights .now) (c .args .parents .now)) (c .args .scratch .now)
+
+abbrev given : tie.Start → StepCall
+given c = givenAt c (c .args .source)
+
+-- the shape of a call that goes on
+shaped : (c : tie.After-enum-told) → stepShape (given (c .before .before .before .before .before .before .before .before .before .before .before)) (c .before .before .before .before .before .before .before .before .before .before .before .args .answer .now) ≡ Pass
+shaped c = sym (c .before .before .step-shape .ensures) ∙ c .enum-told .given .1
+
+-- what Step promises, of the source as it was given
+promised : (c : tie.After-step) → StepContract (given (c .before .before .before .before .before .before .before .before .before .before .before .before .before .before)) (c .step .result) (c .step .last .1 .0) (c .step .last .1 .1 .1 .1 .1 .1 .1 .1 .1 .1 .0)
+promised c = let s = c .before .before .before .before .before .before .before .before .before .before .before .before .before .before in
+    subst (λ (z : ℤ). StepContract (givenAt s z) (c .step .result) (c .step .last .1 .0) (c .step .last .1 .1 .1 .1 .1 .1 .1 .1 .1 .1 .0)) (toZ-ofZ w32 (s .args .source) (s .fits .source)) (c .step .ensures)
+
+step-shape-requires : tie.Need-step-shape-requires
+step-shape-requires c κs = search needs
+
+enum-known-shape : tie.Need-enum-known-shape
+enum-known-shape c = search needs
+
+refusal-requires : tie.Need-refusal-requires
+refusal-requires c κs = search needs
+
+returns : tie.Need-returns
+returns c =
+    let s = c .before .before .before .before .before .before .before .before .before .before .before .before .before in
+    step-shape-refused (given s) (s .args .answer .now) (sym (c .before .before .before .before .step-shape .ensures) ∙ c .before .before .shape .given .1) (c .refusal .ensures)
+
+enum-told : tie.Need-enum-told
+enum-told c = search needs
+
+step-requires : tie.Need-step-requires
+step-requires c κs = search needs
+
+enum-known-stepped : tie.Need-enum-known-stepped
+enum-known-stepped c = search needs
+
+put-repair-requires : tie.Need-put-repair-requires
+put-repair-requires c κs = step-room (given (c .before .before .before .before .before .before .before .before .before .before .before .before .before .before .before .before .before .before .before .before .before)) (c .before .before .before .before .before .before .before .before .before .before .before .before .before .before .before .before .before .before .before .before .before .args .answer .now) (shaped (c .before .before .before .before .before .before .before .before .before .before))
+
+enum-known-stepped-2 : tie.Need-enum-known-stepped-2
+enum-known-stepped-2 c = search needs
+
+refusal-requires-2 : tie.Need-refusal-requires-2
+refusal-requires-2 c κs = search needs
+
+same-length : tie.Need-same-length
+same-length c = search needs
+
+same-length-2 : tie.Need-same-length-2
+same-length-2 c = search needs
+
+same-length-3 : tie.Need-same-length-3
+same-length-3 c = search needs
+
+returns-2 : tie.Need-returns-2
+returns-2 c =
+    let s = c .before .before .before .before .before .before .before .before .before .before .before .before .before .before .before .before .before .before .before .before .before .before .before .before in
+    let put = c .before .before .put-repair .ensures in
+    step-done (given s) (s .args .answer .now) (shaped (c .before .before .before .before .before .before .before .before .before .before .before .before .before)) (promised (c .before .before .before .before .before .before .before .before .before .before)) (c .before .before .before .before .before .stepped .given .1) (put .0) (put .1)
+
+same-length-4 : tie.Need-same-length-4
+same-length-4 c = search needs
+
+same-length-5 : tie.Need-same-length-5
+same-length-5 c = search needs
+
+returns-3 : tie.Need-returns-3
+returns-3 c =
+    let s = c .before .before .before .before .before .before .before .before .before .before .before .before .before .before .before .before .before .before .before .before .before in
+    step-refused (given s) (s .args .answer .now) (shaped (c .before .before .before .before .before .before .before .before .before .before)) (promised (c .before .before .before .before .before .before .before)) (c .before .before .stepped2 .given .1) (c .refusal2 .ensures)
+
+pub legzhuro-step-spec : {M : Type 1} → statement M
+legzhuro-step-spec =
+    tie.close
+    (tie.spec
+    step-shape-requires
+    enum-known-shape
+    refusal-requires
+    returns
+    enum-told
+    step-requires
+    enum-known-stepped
+    put-repair-requires
+    enum-known-stepped-2
+    refusal-requires-2
+    same-length
+    same-length-2
+    same-length-3
+    returns-2
+    same-length-4
+    same-length-5
+    returns-3)

@@ -1,0 +1,42 @@
+-- `legzhuro_c::returns::put_repair` meets its contract: three stores in a row are one written part.
+use mathlib.Core.Path.{refl}
+use native.Mathlib.Omega.{arith}
+use lib.ListN.{length-set}
+use Rattle.numbers.proofs.PartLaws.{sets-written}
+use Rattle.legzhuro_c.specs.Calls.{repairWords}
+use borrow.Author.Needs.{needs}
+use Rattle.legzhuro_c.proofs.returns.put_repair.Statement.{statement}
+use Rattle.legzhuro_c.proofs.returns.put_repair.Tie as tie
+
+cast-answer : tie.Need-cast-answer
+cast-answer c = search needs
+
+slice-write-answer : tie.Need-slice-write-answer
+slice-write-answer c = search needs
+
+cast-answer-2 : tie.Need-cast-answer-2
+cast-answer-2 c = search needs
+
+slice-write-answer-2 : tie.Need-slice-write-answer-2
+slice-write-answer-2 c = simp length-set (omega arith)
+
+slice-write-answer-3 : tie.Need-slice-write-answer-3
+slice-write-answer-3 c = simp length-set (omega arith)
+
+same-length : tie.Need-same-length
+same-length c = search needs
+
+returns : tie.Need-returns
+returns c = let s = c .before .before in (refl, sets-written (repairWords (s .args .repair)) (s .args .answer .now) 0 (s .pre))
+
+pub put-repair-spec : {M : Type 1} → statement M
+put-repair-spec =
+    tie.close
+    (tie.spec
+    cast-answer
+    slice-write-answer
+    cast-answer-2
+    slice-write-answer-2
+    slice-write-answer-3
+    same-length
+    returns)

@@ -1,0 +1,157 @@
+-- The calls from C: what each returns and leaves in the lists lent to it. Assumes nothing.
+use mathlib.Core.Path.{_≡_}
+use mathlib.Core.Bool.{cond}
+use mathlib.Core.List.{List, [], _∷_}
+use Prim.Native.Nat.{ℕ, zero, suc, _+_, _*_, _/_, _%_, _^_}
+use lib.Dec.{eqb}
+use lib.IntN.{ℤ, pos}
+use lib.ListN.{length, getD}
+use lib.Ieee.{Float, nan}
+use Rattle.numbers.specs.declared.Checked.{Checked}
+use Rattle.numbers.specs.declared.Checked.the-variants.{Pass, Fail}
+use Rattle.numbers.specs.Lists.{at, atℤ, written}
+use Rattle.numbers.specs.Signed.{over}
+use Rattle.numbers.specs.Checks.{Answered, accepted, refused, after, first, checkCount, checkLong}
+use Rattle.columns.specs.Columns.{width}
+use Rattle.caas.specs.declared.SplitAnswer.{SplitAnswer}
+use Rattle.caas.specs.declared.SplitAnswer.the-variants as split
+use Rattle.caas.specs.Operation.{SplitCall, splitVerdict, splitMasses}
+use Rattle.qlt.specs.declared.Repair.{Repair}
+use Rattle.qlt.specs.Field.{cells, nodes, field}
+use Rattle.qlt.specs.Masses.{treeMasses}
+use Rattle.qlt.specs.Checks.{sum, checkNodes}
+use Rattle.qlt.specs.Operation.{repair, cleared}
+use Rattle.account.specs.declared.Opened.{Opened}
+use Rattle.account.specs.declared.Opened.the-variants as opened
+use Rattle.account.specs.declared.Stepped.{Stepped}
+use Rattle.account.specs.declared.Stepped.the-variants as stepped
+use Rattle.account.specs.Open.{openVerdict}
+use Rattle.account.specs.Step.{StepCall, newTotal, stepVerdict}
+use Rattle.conversion.specs.declared.CellDoubles.{CellDoubles}
+use Rattle.conversion.specs.declared.CellUnits.{CellUnits}
+use Rattle.conversion.specs.declared.Imported.{Imported}
+use Rattle.conversion.specs.declared.Imported.the-variants as imported
+use Rattle.conversion.specs.declared.Exported.{Exported}
+use Rattle.conversion.specs.declared.Exported.the-variants as exported
+use Rattle.conversion.specs.Import.{doubleAt, importVerdict, importUnits}
+use Rattle.conversion.specs.Export.{exportVerdict, exportDouble}
+use Rattle.formats.specs.declared.AnswerWritten.{AnswerWritten}
+use Rattle.formats.specs.declared.AnswerWritten.the-variants as answers
+use Rattle.formats.specs.ReadField.{fileCells}
+use Rattle.formats.specs.WriteAnswer.{answerBytes, writeCall, writeVerdict}
+use Rattle.repair_file.specs.RepairFile.{fileVerdict, fileRepair, fileMasses}
+
+-- ---- the call on files: reading, then Reconstruct, then writing, each in its order
+
+unfoldable pub callVerdict : List ℕ → List ℕ → Checked
+callVerdict file answer =
+    first (fileVerdict file ∷ writeVerdict (writeCall (fileCells file) (fileRepair file) (fileMasses file) answer) ∷ [])
+
+-- 0, or the refusal's number
+abbrev pub numberOf : Checked → ℕ
+numberOf Pass = 0
+numberOf (Fail number place) = number
+
+abbrev pub writtenNumber : AnswerWritten → ℕ
+writtenNumber (answers.Bytes l) = 0
+writtenNumber (answers.Refused number place) = number
+
+pub record ReconstructReturns (file answer : List ℕ) (r : ℕ) (answer′ : List ℕ) : Type 0 where
+  pub returns : r ≡ numberOf (callVerdict file answer)
+  pub writes : answer′ ≡ after (callVerdict file answer) (written answer 0 (answerBytes (fileCells file) (fileRepair file) (fileMasses file))) answer
+
+-- ---- the other calls return 0, or the refusal's number in the low 32 bits and its place in the high 32
+
+abbrev pub returned : Checked → ℕ
+returned Pass = 0
+returned (Fail number place) = number + place * 2 ^ 32
+
+-- what a return value tells, with the values that the lent list holds
+abbrev pub told : {X : Type 0} → ℕ → X → Answered X
+told zero values = accepted values
+told (suc r) values = refused (suc r % 2 ^ 32) (suc r / 2 ^ 32)
+
+-- Split
+pub record SplitReturns (c : SplitCall) (r : ℕ) (masses : List ℤ) : Type 0 where
+  pub returns : r ≡ returned (splitVerdict c)
+  pub writes : masses ≡ after (splitVerdict c) (splitMasses c) (c .masses)
+
+-- Open: the total goes to the first entry of the answer
+unfoldable pub openCallVerdict : List ℕ → List ℕ → Checked
+openCallVerdict kept answer = first (checkLong (length answer) 1 ∷ openVerdict kept ∷ [])
+
+pub record OpenReturns (kept answer : List ℕ) (r : ℕ) (answer′ : List ℕ) : Type 0 where
+  pub returns : r ≡ returned (openCallVerdict kept answer)
+  pub writes : answer′ ≡ after (openCallVerdict kept answer) (written answer 0 (sum kept ∷ [])) answer
+
+-- Step: outcome, total and change go to the first three entries of the answer, which counts under 3, after 1 and 2
+unfoldable pub stepCallVerdict : StepCall → List ℕ → Checked
+stepCallVerdict c answer =
+    first (checkCount (cells (c .lists)) ∷ checkNodes (cells (c .lists)) (nodes (c .lists)) ∷ checkLong (length answer) 3 ∷ stepVerdict c ∷ [])
+
+abbrev pub repairWords : Repair → List ℕ
+repairWords r = r .outcome ∷ r .total ∷ r .change ∷ []
+
+pub record StepReturns (c : StepCall) (answer : List ℕ) (r : ℕ) (kept : List ℕ) (scratch : List ℤ) (answer′ : List ℕ) : Type 0 where
+  pub returns : r ≡ returned (stepCallVerdict c answer)
+  pub keeps : kept ≡ after (stepCallVerdict c answer) (treeMasses (field (c .lists)) (newTotal c)) (c .kept)
+  pub leaves : scratch ≡ after (stepCallVerdict c answer) (cleared (width * nodes (c .lists)) (c .scratch)) (c .scratch)
+  pub writes : answer′ ≡ after (stepCallVerdict c answer) (written answer 0 (repairWords (repair (c .lists) (newTotal c)))) answer
+
+-- Import: the five units go to the first five entries
+unfoldable pub importCallVerdict : CellDoubles → ℕ → List ℤ → Checked
+importCallVerdict c k units = first (checkLong (length units) 5 ∷ importVerdict c k ∷ [])
+
+abbrev pub unitsList : CellUnits → List ℤ
+unitsList u = u .target ∷ pos (u .low) ∷ pos (u .high) ∷ pos (u .«safe_low») ∷ pos (u .«safe_high») ∷ []
+
+pub record ImportReturns (c : CellDoubles) (k : ℕ) (units : List ℤ) (r : ℕ) (units′ : List ℤ) : Type 0 where
+  pub returns : r ≡ returned (importCallVerdict c k units)
+  pub writes : units′ ≡ after (importCallVerdict c k units) (written units 0 (unitsList (importUnits c k))) units
+
+-- Export: the double goes to the first entry
+unfoldable pub exportCallVerdict : ℕ → ℕ → List Float → Checked
+exportCallVerdict mass k value = first (checkLong (length value) 1 ∷ exportVerdict mass k ∷ [])
+
+pub record ExportReturns (mass k : ℕ) (value : List Float) (r : ℕ) (value′ : List Float) : Type 0 where
+  pub returns : r ≡ returned (exportCallVerdict mass k value)
+  pub writes : value′ ≡ after (exportCallVerdict mass k value) (written value 0 (exportDouble mass k ∷ [])) value
+
+-- ---- the operations' own answers, read off the return value and the lent list
+
+abbrev pub splitAnswer : Answered Unit → SplitAnswer
+splitAnswer (accepted u) = split.Done
+splitAnswer (refused number place) = split.Refused number place
+
+abbrev pub openAnswer : Answered ℕ → Opened
+openAnswer (accepted t) = opened.Total t
+openAnswer (refused number place) = opened.Refused number place
+
+abbrev pub repairIn : List ℕ → Repair
+repairIn answer = record { outcome = at answer 0; total = at answer 1; change = at answer 2 }
+
+abbrev pub stepAnswer : Answered Repair → Stepped
+stepAnswer (accepted r) = stepped.Accepted r
+stepAnswer (refused number place) = stepped.Refused number place
+
+abbrev pub unitsIn : List ℤ → CellUnits
+unitsIn units =
+    record {
+      target = atℤ units 0;
+      low = over (atℤ units 1);
+      high = over (atℤ units 2);
+      «safe_low» = over (atℤ units 3);
+      «safe_high» = over (atℤ units 4);
+    }
+
+-- a refused double is the one that was passed for the field
+abbrev pub importAnswer : Answered CellUnits → CellDoubles → Imported
+importAnswer (accepted u) c = imported.Units u
+importAnswer (refused number place) c = cond (eqb number 9) imported.BadScale (imported.Refused number place (doubleAt c place))
+
+abbrev pub exportAnswer : Answered Float → Exported
+exportAnswer (accepted x) = exported.Double x
+exportAnswer (refused number place) = exported.Refused number place
+
+abbrev pub doubleIn : List Float → Float
+doubleIn value = getD value 0 nan

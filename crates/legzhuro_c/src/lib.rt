@@ -1,0 +1,166 @@
+// The calls from C, a static library. `include/legzhuro.h` documents them. Public: the six functions here; what they share is in `returns`
+// and the work of the file call in `whole`, for this crate alone. Relies on every operation and on `repair_file` and `numbers`.
+ghost use Rattle.caas.specs.Operation.{splitCall};
+ghost use Rattle.qlt.specs.Field.{lists};
+ghost use Rattle.account.specs.Step.{stepCall};
+ghost use Rattle.legzhuro_c.specs.Calls.{ReconstructReturns, SplitReturns, OpenReturns, StepReturns, ImportReturns, ExportReturns};
+use account::Opened;
+use account::Stepped;
+use caas::SplitAnswer;
+use conversion::CellDoubles;
+use conversion::Exported;
+use conversion::Imported;
+use numbers::Checked;
+
+mod returns;
+mod whole;
+
+// Reads a field file, repairs the field's masses and writes the answer file. Returns 0 or the refusal's number.
+#[no_mangle]
+pub extern "C" fn legzhuro_reconstruct(file: &[u8], answer: &mut [u8]) -> u32
+    ensures { λ r. ⌜ ReconstructReturns (now (file .entry)) (now (answer .entry)) r (now (answer .exit)) ⌝ }
+{
+    let mut targets = [0i32; 512];
+    let mut lows = [0u32; 512];
+    let mut highs = [0u32; 512];
+    let mut safe_lows = [0u32; 512];
+    let mut safe_highs = [0u32; 512];
+    let mut weights = [0u32; 512];
+    let mut parents = [0u32; 1024];
+    let mut masses = [0u32; 512];
+    let mut scratch = [0i64; 6144];
+    whole::answer_file(
+        file,
+        answer,
+        &mut targets,
+        &mut lows,
+        &mut highs,
+        &mut safe_lows,
+        &mut safe_highs,
+        &mut weights,
+        &mut parents,
+        &mut masses,
+        &mut scratch,
+    )
+}
+
+// Split.
+#[no_mangle]
+pub extern "C" fn legzhuro_split(
+    targets: &[i64],
+    lows: &[i64],
+    highs: &[i64],
+    weights: &[i64],
+    total: i64,
+    masses: &mut [i64],
+) -> u64
+    ensures { λ r. ⌜ SplitReturns (splitCall (now (targets .entry)) (now (lows .entry)) (now (highs .entry)) (now (weights .entry)) total (now (masses .entry))) r (now (masses .exit)) ⌝ }
+{
+    match split::split(targets, lows, highs, weights, total, masses) {
+        SplitAnswer::Done => 0,
+        SplitAnswer::Refused { number, place } => returns::refusal(number, place),
+    }
+}
+
+// Open: answer[0] is the total.
+#[no_mangle]
+pub extern "C" fn legzhuro_open(kept: &[u32], answer: &mut [u64]) -> u64
+    ensures { λ r. ⌜ OpenReturns (now (kept .entry)) (now (answer .entry)) r (now (answer .exit)) ⌝ }
+{
+    if answer.len() < 1 {
+        return 3;
+    }
+    match kept::open(kept) {
+        Opened::Total(total) => returns::put_total(total, answer),
+        Opened::Refused { number, place } => returns::refusal(number, place),
+    }
+}
+
+// Step: answer[0] is the outcome, answer[1] the new total, answer[2] the change.
+#[no_mangle]
+pub extern "C" fn legzhuro_step(
+    total: u32,
+    kept: &mut [u32],
+    source: i32,
+    targets: &[i32],
+    lows: &[u32],
+    highs: &[u32],
+    safe_lows: &[u32],
+    safe_highs: &[u32],
+    weights: &[u32],
+    parents: &[u32],
+    scratch: &mut [i64],
+    answer: &mut [u64],
+) -> u64
+    ensures { λ r. ⌜ StepReturns (stepCall total (now (kept .entry)) source (lists (now (targets .entry)) (now (lows .entry)) (now (highs .entry)) (now («safe_lows» .entry)) (now («safe_highs» .entry)) (now (weights .entry)) (now (parents .entry))) (now (scratch .entry))) (now (answer .entry)) r (now (kept .exit)) (now (scratch .exit)) (now (answer .exit)) ⌝ }
+{
+    let shape = returns::step_shape(targets.len(), parents.len(), answer.len());
+    if let Checked::Fail { number, place } = shape {
+        return returns::refusal(number, place);
+    }
+    let stepped = kept::step(
+        total,
+        kept,
+        source,
+        targets,
+        lows,
+        highs,
+        safe_lows,
+        safe_highs,
+        weights,
+        parents,
+        scratch,
+    );
+    match stepped {
+        Stepped::Accepted(repair) => returns::put_repair(repair, answer),
+        Stepped::Refused { number, place } => returns::refusal(number, place),
+    }
+}
+
+// Import: units[0] to units[4] are the target, low, high, safe low and safe high.
+#[no_mangle]
+pub extern "C" fn legzhuro_import(
+    target: f64,
+    low: f64,
+    high: f64,
+    safe_low: f64,
+    safe_high: f64,
+    scale: u32,
+    units: &mut [i64],
+) -> u64
+    ensures { λ r. ⌜ ImportReturns (record { target = target; low = low; high = high; «safe_low» = «safe_low»; «safe_high» = «safe_high» }) scale (now (units .entry)) r (now (units .exit)) ⌝ }
+{
+    if units.len() < 5 {
+        return 3;
+    }
+    let cell = CellDoubles {
+        target,
+        low,
+        high,
+        safe_low,
+        safe_high,
+    };
+    match doubles::import(cell, scale) {
+        Imported::Units(cell_units) => returns::put_units(cell_units, units),
+        Imported::BadScale => 9,
+        Imported::Refused {
+            number,
+            field,
+            double: _,
+        } => returns::refusal(number, field),
+    }
+}
+
+// Export: value[0] is the double.
+#[no_mangle]
+pub extern "C" fn legzhuro_export(mass: u32, scale: u32, value: &mut [f64]) -> u64
+    ensures { λ r. ⌜ ExportReturns mass scale (now (value .entry)) r (now (value .exit)) ⌝ }
+{
+    if value.len() < 1 {
+        return 3;
+    }
+    match doubles::export(mass, scale) {
+        Exported::Double(x) => returns::put_double(x, value),
+        Exported::Refused { number, place } => returns::refusal(number, place),
+    }
+}

@@ -1,0 +1,72 @@
+// Return values, and values put into the lent lists.
+ghost use mathlib.Core.Path.{_≡_};
+ghost use mathlib.Core.List.{[], _∷_};
+ghost use Prim.Native.Nat.{_+_, _*_, _≤_, _^_};
+ghost use lib.ListN.{length};
+ghost use Rattle.numbers.specs.Lists.{written};
+ghost use Rattle.numbers.specs.Checks.{first, checkCount, checkLong};
+ghost use Rattle.qlt.specs.Checks.{checkNodes};
+ghost use Rattle.legzhuro_c.specs.Calls.{repairWords, unitsList};
+use checks::inner::check_nodes;
+use conversion::CellUnits;
+use numbers::Checked;
+use numbers::inner::check_count;
+use numbers::inner::check_long;
+use numbers::inner::then;
+use qlt::Repair;
+
+// The number in the low 32 bits, the place in the high 32.
+pub fn refusal(number: u32, place: u32) -> u64
+    ensures { λ r. ⌜ r ≡ number + place * 2 ^ 32 ⌝ }
+{
+    number as u64 + place as u64 * 4294967296
+}
+
+// Step's 1 and 2, and under 3 the list for its values.
+pub fn step_shape(cells: usize, nodes: usize, answer: usize) -> Checked
+    ensures { λ r. ⌜ r ≡ first (checkCount cells ∷ checkNodes cells nodes ∷ checkLong answer 3 ∷ []) ⌝ }
+{
+    then(
+        check_count(cells),
+        then(check_nodes(cells, nodes), check_long(answer, 3)),
+    )
+}
+
+// Each of these puts the values of an accepted call and returns 0.
+pub fn put_total(total: u32, answer: &mut [u64]) -> u64
+    requires { ⌜ 1 ≤ length (now answer) ⌝ }
+    ensures { λ r. ⌜ (r ≡ 0) × (now (answer .exit) ≡ written (now (answer .entry)) 0 (total ∷ [])) ⌝ }
+{
+    answer[0] = total as u64;
+    0
+}
+
+pub fn put_repair(repair: Repair, answer: &mut [u64]) -> u64
+    requires { ⌜ 3 ≤ length (now answer) ⌝ }
+    ensures { λ r. ⌜ (r ≡ 0) × (now (answer .exit) ≡ written (now (answer .entry)) 0 (repairWords repair)) ⌝ }
+{
+    answer[0] = repair.outcome as u64;
+    answer[1] = repair.total as u64;
+    answer[2] = repair.change;
+    0
+}
+
+pub fn put_units(cell: CellUnits, units: &mut [i64]) -> u64
+    requires { ⌜ 5 ≤ length (now units) ⌝ }
+    ensures { λ r. ⌜ (r ≡ 0) × (now (units .exit) ≡ written (now (units .entry)) 0 (unitsList cell)) ⌝ }
+{
+    units[0] = cell.target as i64;
+    units[1] = cell.low as i64;
+    units[2] = cell.high as i64;
+    units[3] = cell.safe_low as i64;
+    units[4] = cell.safe_high as i64;
+    0
+}
+
+pub fn put_double(x: f64, value: &mut [f64]) -> u64
+    requires { ⌜ 1 ≤ length (now value) ⌝ }
+    ensures { λ r. ⌜ (r ≡ 0) × (now (value .exit) ≡ written (now (value .entry)) 0 (x ∷ [])) ⌝ }
+{
+    value[0] = x;
+    0
+}

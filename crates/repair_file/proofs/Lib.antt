@@ -1,0 +1,3 @@
+-- The laws of reading and repairing a file; they stand over the definitions of specs/ alone.
+pub mod FileLaws
+pub mod BackLaws

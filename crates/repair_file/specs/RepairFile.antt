@@ -1,0 +1,90 @@
+-- From a field file's bytes to the repaired masses: reading, then Reconstruct. Assumes nothing.
+use mathlib.Core.Path.{_≡_}
+use mathlib.Core.List.{List, [], _∷_}
+use Prim.Native.Nat.{ℕ, _*_}
+use lib.IntN.{ℤ, pos}
+use lib.ListN.{take}
+use Rattle.numbers.specs.declared.Checked.{Checked}
+use Rattle.numbers.specs.Lists.{listTo, written}
+use Rattle.numbers.specs.Checks.{Answered, accepted, refused, answered, after, first}
+use Rattle.columns.specs.Columns.{width}
+use Rattle.qlt.specs.declared.Repair.{Repair}
+use Rattle.qlt.specs.Field.{Lists, lists, nodes, field}
+use Rattle.qlt.specs.Masses.{treeMasses}
+use Rattle.qlt.specs.Operation.{Call, call, verdict, repair, cleared}
+use Rattle.formats.specs.FieldFile.{wordTarget, cellWord, parentWord}
+use Rattle.formats.specs.ReadField.{fileCells, fileNodes, fileTotal, readVerdict, listsRead}
+use Rattle.repair_file.specs.declared.FileRepaired.{FileRepaired}
+use Rattle.repair_file.specs.declared.FileRepaired.the-variants.{Done, Refused}
+
+-- lists that have room for every field: reading into them is never refused with 3
+abbrev pub largest : Lists
+largest =
+    lists (listTo 512 (λ i. pos 0)) (listTo 512 (λ i. 0)) (listTo 512 (λ i. 0)) (listTo 512 (λ i. 0)) (listTo 512 (λ i. 0)) (listTo 512 (λ i. 0)) (listTo 1024 (λ i. 0))
+
+-- the field that a file holds
+unfoldable pub fileLists : List ℕ → Lists
+fileLists file =
+    lists
+    (listTo (fileCells file) (λ i. wordTarget (cellWord file 0 i)))
+    (listTo (fileCells file) (cellWord file 1))
+    (listTo (fileCells file) (cellWord file 2))
+    (listTo (fileCells file) (cellWord file 3))
+    (listTo (fileCells file) (cellWord file 4))
+    (listTo (fileCells file) (cellWord file 5))
+    (listTo (fileNodes file) (parentWord file (fileCells file)))
+
+-- Reconstruct's call for it: masses for each cell, and as much scratch as is asked for
+abbrev pub fileCall : List ℕ → Call
+fileCall file = call (fileLists file) (fileTotal file) (listTo (fileCells file) (λ i. 0)) (listTo (width * fileNodes file) (λ i. pos 0))
+
+-- reading, then Reconstruct, each in its order
+unfoldable pub fileVerdict : List ℕ → Checked
+fileVerdict file = first (readVerdict file largest ∷ verdict (fileCall file) ∷ [])
+
+-- what an accepted file gives
+unfoldable pub fileRepair : List ℕ → Repair
+fileRepair file = repair (fileLists file) (fileTotal file)
+
+unfoldable pub fileMasses : List ℕ → List ℕ
+fileMasses file = treeMasses (field (fileLists file)) (fileTotal file)
+
+-- the number of cells beside it
+pub record Repaired : Type 0 where
+  pub cells : ℕ
+  pub repair : Repair
+
+abbrev pub repairedOf : List ℕ → Repaired
+repairedOf file = record { cells = fileCells file; repair = fileRepair file }
+
+unfoldable pub fileTells : FileRepaired → Answered Repaired
+fileTells (Done n r) = accepted (record { cells = n; repair = r })
+fileTells (Refused number place) = refused number place
+
+-- what the code leaves: s and t are the lists of the field before and after
+pub record RepairsFile (file : List ℕ) (s : Lists) (masses : List ℕ) (scratch : List ℤ) (answer : FileRepaired) (t : Lists) (masses′ : List ℕ) (scratch′ : List ℤ) : Type 0 where
+  pub answers : fileTells answer ≡ answered (fileVerdict file) (repairedOf file)
+  pub reads : t ≡ after (readVerdict file largest) (listsRead file s) s
+  pub writes : masses′ ≡ after (fileVerdict file) (written masses 0 (fileMasses file)) masses
+  pub leaves : scratch′ ≡ after (fileVerdict file) (cleared (width * fileNodes file) scratch) scratch
+
+-- ---- Reconstruct on the front of longer lists
+
+-- the first n entries of the lists of cells, and the first m parents
+abbrev pub fronts : ℕ → ℕ → Lists → Lists
+fronts n m s =
+    lists (take n (s .targets)) (take n (s .lows)) (take n (s .highs)) (take n (s .safeLows)) (take n (s .safeHighs)) (take n (s .weights)) (take m (s .parents))
+
+abbrev pub frontCall : ℕ → ℕ → ℕ → Lists → List ℕ → List ℤ → Call
+frontCall n m M s masses scratch = call (fronts n m s) M (take n masses) scratch
+
+-- what Reconstruct tells, with the number of cells beside it
+abbrev pub beside : ℕ → Answered Repair → Answered Repaired
+beside n (accepted r) = accepted (record { cells = n; repair = r })
+beside n (refused number place) = refused number place
+
+-- what the code leaves: the masses are those of the front of their list
+pub record RepairsFronts (n m M : ℕ) (s : Lists) (masses : List ℕ) (scratch : List ℤ) (answer : FileRepaired) (masses′ : List ℕ) (scratch′ : List ℤ) : Type 0 where
+  pub answers : fileTells answer ≡ beside n (answered (verdict (frontCall n m M s masses scratch)) (repair (fronts n m s) M))
+  pub writes : masses′ ≡ after (verdict (frontCall n m M s masses scratch)) (written masses 0 (treeMasses (field (fronts n m s)) M)) masses
+  pub leaves : scratch′ ≡ after (verdict (frontCall n m M s masses scratch)) (cleared (width * nodes (fronts n m s)) scratch) scratch

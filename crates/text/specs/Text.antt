@@ -1,0 +1,54 @@
+-- Numbers as decimal text, what a decimal text means, and text put into a list of bytes. Assumes nothing.
+use mathlib.Core.Path.{_≡_}
+use mathlib.Core.Bool.{cond}
+use mathlib.Core.List.{List, [], _∷_, _++_}
+use Prim.Native.Nat.{ℕ, zero, suc, _+_, _*_, _-_, _/_, _%_, _≤_, _<_}
+use lib.Dec.{ltb}
+use lib.IntN.{ℤ, pos, negsuc}
+use lib.ListN.{length}
+use Rattle.numbers.specs.Lists.{at, written}
+
+-- ---- numbers
+
+-- the digits of n, of which there are at most k: one below ten, else those of its tenth and the last
+unfoldable pub digitsOf : ℕ → ℕ → List ℕ
+digitsOf zero n = []
+digitsOf (suc k) n = cond (ltb n 10) ((48 + n) ∷ []) (digitsOf k (n / 10) ++ ((48 + n % 10) ∷ []))
+
+-- a number below 10 ^ 20
+abbrev pub digits : ℕ → List ℕ
+digits n = digitsOf 20 n
+
+-- a number, and the byte after it
+abbrev pub number : ℕ → ℕ → List ℕ
+number n after = digits n ++ (after ∷ [])
+
+-- a signed number: below 0 it has a minus sign
+unfoldable pub signedNumber : ℤ → ℕ → List ℕ
+signedNumber (pos n) after = number n after
+signedNumber (negsuc n) after = 45 ∷ number (suc n) after
+
+-- a number after a word
+abbrev pub named : List ℕ → ℕ → ℕ → List ℕ
+named word n after = word ++ number n after
+
+-- ---- what digits mean
+
+-- the value of a list of digits
+unfoldable pub valueFrom : ℕ → List ℕ → ℕ
+valueFrom x [] = x
+valueFrom x (d ∷ ds) = valueFrom (10 * x + (d - 48)) ds
+
+-- ds is n in decimal: some digits, with n as their value, and a leading zero only if it is the only digit
+pub record Decimal (n : ℕ) (ds : List ℕ) : Type 0 where
+  pub some : 0 < length ds
+  pub digit : (i : ℕ) → i < length ds → (48 ≤ at ds i) × (at ds i ≤ 57)
+  pub value : valueFrom 0 ds ≡ n
+  pub shortest : at ds 0 ≡ 48 → length ds ≡ 1
+
+-- ---- text in a list of bytes
+
+-- `text` was put into d at `from`, which made it d′, and end is the place after it
+pub record Put (d d′ : List ℕ) (from end : ℕ) (text : List ℕ) : Type 0 where
+  pub next : end ≡ from + length text
+  pub bytes : d′ ≡ written d from text
