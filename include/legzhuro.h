@@ -5,7 +5,8 @@
  * otherwise no definition decides.
  *
  * Calls have no state of their own and may be made from several threads at once on lists that are not shared. Every call returns, whatever
- * numbers, bytes or doubles it is given. A refused call writes to no list.
+ * numbers, bytes or doubles it is given. A refused call writes to no list. legzhuro_reconstruct needs some 70 KB of stack, legzhuro_split
+ * some 25 KB.
  *
  * legzhuro_reconstruct returns 0 or the refusal's number. The other calls return 0, or the refusal's number in the low 32 bits and its
  * place in the high 32: LEGZHURO_NUMBER and LEGZHURO_PLACE take them apart. README.md has a table of the numbers.
@@ -30,26 +31,33 @@ extern "C" {
 #define LEGZHURO_SCRATCH 6            /* scratch numbers for each node */
 
 /* Reads a field file's bytes, repairs the masses of its cells so that they add up to its total M, and writes the answer file to the front
- * of `answer`; bytes past the file are left alone. 3072 bytes are enough for every answer.
- * Refusals: those of reading (14, 15, 16, 1, 2), then those of the repair (4 to 8), then those of writing (3: `answer` is too short). */
+ * of `answer`; bytes past the file are left alone. 3072 bytes are enough for every answer. Both formats are blocks of 512 bytes with a number
+ * and check words; the scope paper has them ('Files').
+ * Refusals: those of reading (14, 15, 16, 1, 2), then those of the repair (4 to 8), then 3 (`answer` is too short for the file). */
 uint32_t legzhuro_reconstruct(const uint8_t *file, size_t file_len, uint8_t *answer, size_t answer_len);
 
-/* Splits `total` among items: masses[i] lies within lows[i] and highs[i], and the masses add up to the total. The number of items is that
- * of the targets, 1 to 512; every other list must have the same length.
+/* Splits `total` among items: item i would like targets[i], must get a mass between lows[i] and highs[i], and shares what is missing or too
+ * much by weights[i] first, then by the room that is left. masses[i] is what it gets; the masses add up to the total. The number of items is
+ * that of the targets, 1 to 512; every other list must have the same length. Lows and weights must not be below 0, and highs and weights each
+ * add up to at most 2147483647.
  * Refusals: 1, 3, 5 (place: the first item), 6, 7, 8. */
 uint64_t legzhuro_split(const int64_t *targets, size_t targets_len, const int64_t *lows, size_t lows_len, const int64_t *highs,
                         size_t highs_len, const int64_t *weights, size_t weights_len, int64_t total, int64_t *masses, size_t masses_len);
 
-/* Adds up the kept masses of a field; answer[0] is the total, and later entries of `answer` are left alone.
+/* Opens a kept field: kept[c] is the mass of cell c, of 1 to 512 cells. answer[0] is their sum, the total that the first step is given; later
+ * entries of `answer` are left alone.
  * Refusals: 3 (`answer` has no entry), 1, 13. */
 uint64_t legzhuro_open(const uint32_t *kept, size_t kept_len, uint64_t *answer, size_t answer_len);
 
-/* Steps a kept field: the new total is `total` plus `source`, and the masses of the new field for it replace the kept ones. `total` is the
- * total that legzhuro_open or the last accepted step gave. The number of cells is the length of `targets`, that of nodes the length of
- * `parents`; `kept` and the other five lists must have one entry for each cell, `scratch` six or more for each node. After an accepted
- * step the first six entries of `scratch` for each node are 0, later ones are left alone; answer[0] is the outcome (0: within the bounds,
- * 1: between safe low and low, 2: between high and safe high), answer[1] the new total, answer[2] the change, the sum over cells of the
- * absolute mass minus target; later entries of `answer` are left alone.
+/* Steps a kept field. `total` is the total that legzhuro_open or the last accepted step gave, `kept` the masses as the last call left them,
+ * `source` what enters (or, below 0, leaves) in this step: the new total is `total` plus `source`. The other lists are the new field: cell c
+ * would like targets[c] (transport may undershoot 0), should lie between lows[c] and highs[c], must lie between safe_lows[c] and
+ * safe_highs[c], and shares by weights[c]; parents[v] is the parent of node v, where nodes 0 to cells - 1 are the cells and the last node,
+ * its own parent, is the root. The number of cells is the length of `targets`, that of nodes the length of `parents`; `kept` and the other
+ * five lists must have one entry for each cell, `scratch` six or more for each node.
+ * After an accepted step `kept` holds the new masses; the first six entries of `scratch` for each node are 0, later ones are left alone;
+ * answer[0] is the outcome (0: within the bounds, 1: between safe low and low, 2: between high and safe high), answer[1] the new total,
+ * answer[2] the change, the sum over cells of the absolute mass minus target; later entries of `answer` are left alone.
  * Refusals: 1, 2, 3 (also `answer` with fewer than three entries), 4 (place: the smallest node that breaks a rule), 5 (place: the first
  * cell), 6, 7, 12, 13, 8. */
 uint64_t legzhuro_step(uint32_t total, uint32_t *kept, size_t kept_len, int32_t source, const int32_t *targets, size_t targets_len,
@@ -58,14 +66,16 @@ uint64_t legzhuro_step(uint32_t total, uint32_t *kept, size_t kept_len, int32_t 
                        size_t weights_len, const uint32_t *parents, size_t parents_len, int64_t *scratch, size_t scratch_len,
                        uint64_t *answer, size_t answer_len);
 
-/* Turns a cell's doubles into whole units: each times 2^scale exactly, then the target to nearest with ties to even, the lows up, the highs
- * down. units[0] to units[4] are target, low, high, safe low and safe high; later entries are left alone.
+/* Turns a cell's doubles into whole units of 2^-scale, for a scale of 0 to 30: each times 2^scale exactly, then the target to nearest with
+ * ties to even, the lows up, the highs down. Minus zero is 0. units[0] to units[4] are target (-2147483648 to 2147483647), low, high, safe low and
+ * safe high (0 to 2147483647); later entries are left alone.
  * Refusals: 3 (`units` has fewer than five entries), 9, then 10 and 11 field by field (place: the field, 0 to 4); the double refused is the
  * argument of that field. */
 uint64_t legzhuro_import(double target, double low, double high, double safe_low, double safe_high, uint32_t scale, int64_t *units,
                          size_t units_len);
 
-/* Turns a mass into a double: value[0] is mass times 2^-scale, exactly; later entries are left alone.
+/* Turns a mass of at most 2147483647 units of 2^-scale into a double: value[0] is mass times 2^-scale, exactly, plus zero for mass 0; later
+ * entries are left alone. Importing it at that scale in any field gives the mass again.
  * Refusals: 3 (`value` has no entry), 9, 11. */
 uint64_t legzhuro_export(uint32_t mass, uint32_t scale, double *value, size_t value_len);
 

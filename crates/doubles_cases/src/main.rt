@@ -6,21 +6,19 @@
 // scale again. Any other kind is a case by itself. Scales and masses above 4294967295 are taken as 4294967295.
 // A line has `units` and the five units, `double` and its bit pattern, or `refused` with number and place. Where the refusal carries a
 // double, its bit pattern follows, or `nan`. The cases end with the input, of which at most 65,536 bytes are read.
-// Relies on `doubles`, which it tests, `conversion` for the answers, `numbers`, and the kit's `io` and `libc`.
+// Relies on `doubles`, which it tests, `conversion` for the answers, `cases`, and the kit's `io` and `libc`.
 ghost use Prim.Native.Nat.{_≤_};
 ghost use lib.ListN.{length};
+use cases::input::later;
+use cases::input::read_unsigned;
+use cases::input::skip;
+use cases::output::show_no_kind;
+use cases::output::show_refusal;
 use conversion::CellDoubles;
 use conversion::Exported;
 
 mod input;
 mod output;
-
-// The later of two positions.
-fn later(a: usize, b: usize) -> usize
-    ensures { λ r. ⌜ a ≤ r ⌝ }
-{
-    if a < b { b } else { a }
-}
 
 // Runs Import on the case whose numbers start at `at`. Returns the position behind them.
 fn run_import(text: &[u8], at: usize) -> usize
@@ -61,7 +59,7 @@ fn export_import(mass: u32, scale: u32) {
             import_all(x, scale);
         }
         Exported::Refused { number, place } => {
-            output::show_refusal(number, place);
+            show_refusal(number, place);
         }
     }
 }
@@ -80,23 +78,23 @@ fn run_both(text: &[u8], at: usize) -> usize
 fn run_case(text: &[u8], at: usize) -> usize
     requires { ⌜ at ≤ length (now text) ⌝ }
 {
-    let kind = input::read(text, at);
+    let kind = read_unsigned(text, at);
     if kind.value == 1 {
-        return input::skip(text, run_import(text, kind.next));
+        return skip(text, run_import(text, kind.next));
     }
     if kind.value == 2 {
-        return input::skip(text, run_export(text, kind.next));
+        return skip(text, run_export(text, kind.next));
     }
     if kind.value == 3 {
-        return input::skip(text, run_both(text, kind.next));
+        return skip(text, run_both(text, kind.next));
     }
-    output::show_no_kind();
-    input::skip(text, kind.next)
+    show_no_kind();
+    skip(text, kind.next)
 }
 
 // Runs all cases. Each takes at least a byte, so that the loop ends whatever the bytes are.
 fn run_all(text: &[u8]) {
-    let mut at = input::skip(text, 0);
+    let mut at = skip(text, 0);
     while at < text.len() {
         at = later(at + 1, run_case(text, at));
     }

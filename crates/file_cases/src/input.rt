@@ -1,17 +1,12 @@
-// Whole numbers from text: digits, and spaces and line ends between numbers. A number beyond the range of unsigned 64 bits is read as
-// the end of the range. Past the text, and where any other byte stands, a number is 0 and takes no byte.
+// The cases, from the whole numbers of the text, as `cases` reads them.
 ghost use Prim.Native.Nat.{_≤_, _<_};
 ghost use lib.ListN.{length};
+use cases::input::read_unsigned;
+use cases::input::word;
 use numbers::inner::index;
 use numbers::inner::larger;
 use numbers::inner::smaller;
 use qlt::Repair;
-
-// A number, and the position behind it.
-pub struct Number {
-    pub value: u64,
-    pub next: usize,
-}
 
 // A list's length, and the position behind it.
 struct Length {
@@ -49,97 +44,12 @@ pub struct WriteCase {
     pub next: usize,
 }
 
-// Whether a byte is a digit.
-fn is_digit(b: u8) -> bool {
-    b'0' <= b && b <= b'9'
-}
-
-// Whether a byte stands between numbers.
-fn is_separator(b: u8) -> bool {
-    b == b' ' || b == b'\n'
-}
-
-// Whether a byte is a digit, or, if `digits` is false, a separator.
-fn is_of(digits: bool, b: u8) -> bool {
-    if digits { is_digit(b) } else { is_separator(b) }
-}
-
-// The first position from `at` on that has no digit, or, if `digits` is false, no separator.
-fn past(digits: bool, text: &[u8], at: usize) -> usize
-    requires { ⌜ at ≤ length (now text) ⌝ }
-    ensures { λ r. ⌜ (at ≤ r) × (r ≤ length (now (text .entry))) ⌝ }
-{
-    let mut i = at;
-    while i < text.len() {
-        if !is_of(digits, text[i]) {
-            return i;
-        }
-        i += 1;
-    }
-    i
-}
-
-// The first position from `at` on that has no separator.
-pub fn skip(text: &[u8], at: usize) -> usize
-    requires { ⌜ at ≤ length (now text) ⌝ }
-    ensures { λ r. ⌜ (at ≤ r) × (r ≤ length (now (text .entry))) ⌝ }
-{
-    past(false, text, at)
-}
-
-// What a digit stands for.
-fn digit(b: u8) -> u64
-    ensures { λ r. ⌜ r < 256 ⌝ }
-{
-    if b < b'0' {
-        return 0;
-    }
-    (b - b'0') as u64
-}
-
-// A number with one digit more, or 2 ^ 64 - 1 if that is less.
-fn grown(value: u64, last: u64) -> u64
-    requires { ⌜ last < 256 ⌝ }
-{
-    if (18446744073709551615 - last) / 10 < value {
-        return 18446744073709551615;
-    }
-    value * 10 + last
-}
-
-// What digits stand for, or 2 ^ 64 - 1 if that is less.
-fn value_of(digits: &[u8]) -> u64 {
-    let mut value: u64 = 0;
-    let mut i: usize = 0;
-    while i < digits.len() {
-        value = grown(value, digit(digits[i]));
-        i += 1;
-    }
-    value
-}
-
-// The number at `at`, past separators.
-pub fn read(text: &[u8], at: usize) -> Number
-    requires { ⌜ at ≤ length (now text) ⌝ }
-    ensures { λ r. ⌜ (at ≤ r .next) × (r .next ≤ length (now (text .entry))) ⌝ }
-{
-    let first = skip(text, at);
-    let next = past(true, text, first);
-    let value = value_of(&text[first..next]);
-    Number { value, next }
-}
-
-// The number as one of 32 bits, or the end of that range if the number is beyond it.
-fn word(x: u64) -> u32 {
-    smaller(x, 4294967295) as u32
-}
-
 // The length at `at`, which counts as `most` if it is more.
 fn read_length(text: &[u8], at: usize, most: u64) -> Length
     requires { ⌜ at ≤ length (now text) ⌝ }
     ensures { λ r. ⌜ (r .value ≤ most) × (r .next ≤ length (now (text .entry))) ⌝ }
 {
-    let number = read(text, at);
+    let number = read_unsigned(text, at);
     Length {
         value: index(smaller(number.value, most)),
         next: number.next,
@@ -152,7 +62,7 @@ pub fn read_read(text: &[u8], at: usize) -> ReadCase
     ensures { λ r. ⌜ (r .targets ≤ 520) × (r .lows ≤ 520) × (r .highs ≤ 520) × (r .«safe_lows» ≤ 520) ⌝ }
     ensures { λ r. ⌜ (r .«safe_highs» ≤ 520) × (r .weights ≤ 520) × (r .parents ≤ 1030) × (r .next ≤ length (now (text .entry))) ⌝ }
 {
-    let file = read(text, at);
+    let file = read_unsigned(text, at);
     let targets = read_length(text, file.next, 520);
     let lows = read_length(text, targets.next, 520);
     let highs = read_length(text, lows.next, 520);
@@ -199,15 +109,15 @@ pub fn read_write(text: &[u8], at: usize) -> WriteCase
     ensures { λ r. ⌜ (r .masses ≤ 600) × (r .buffer ≤ 4096) × (r .next ≤ length (now (text .entry))) ⌝ }
     ensures { λ r. ⌜ (r .rule .step ≤ 4294967295) × (0 < r .rule .modulus) × (r .rule .modulus ≤ 4294967296) ⌝ }
 {
-    let cells = read(text, at);
-    let outcome = read(text, cells.next);
-    let total = read(text, outcome.next);
-    let change = read(text, total.next);
+    let cells = read_unsigned(text, at);
+    let outcome = read_unsigned(text, cells.next);
+    let total = read_unsigned(text, outcome.next);
+    let change = read_unsigned(text, total.next);
     let masses = read_length(text, change.next, 600);
     let buffer = read_length(text, masses.next, 4096);
-    let first = read(text, buffer.next);
-    let step = read(text, first.next);
-    let modulus = read(text, step.next);
+    let first = read_unsigned(text, buffer.next);
+    let step = read_unsigned(text, first.next);
+    let modulus = read_unsigned(text, step.next);
     WriteCase {
         cells: index(cells.value),
         repair: repair_of(outcome.value, total.value, change.value),

@@ -12,23 +12,21 @@
 // A line has `read` with n, m and M, `bytes` and the file's length, or `refused` with number and place. Then comes, for each lent list
 // that may be written, in the order above, a check number of all its entries, with those past the field or the file. The cases end with
 // the input, of which at most 65,536 bytes are read.
-// Relies on `field_file` and `answer_file`, which it tests, `formats` for the answers, `qlt`, `numbers`, and the kit's `io`, `os` and
-// `libc`.
+// Relies on `field_file` and `answer_file`, which it tests, `formats` for the answers, `qlt`, `cases`, `numbers`, and the kit's `io`,
+// `os` and `libc`.
 ghost use Prim.Native.Nat.{_≤_};
 ghost use lib.ListN.{length};
 ghost use Rattle.io.specs.Counts.{Counts};
+use cases::input::later;
+use cases::input::read_unsigned;
+use cases::input::skip;
+use cases::output::end_line;
+use cases::output::show_no_kind;
 use input::ReadCase;
 use input::WriteCase;
 
 mod input;
 mod output;
-
-// The later of two positions.
-fn later(a: usize, b: usize) -> usize
-    ensures { λ r. ⌜ a ≤ r ⌝ }
-{
-    if a < b { b } else { a }
-}
 
 // The last digit of a number, as a byte of text.
 fn last_digit(x: u64) -> u8 {
@@ -93,7 +91,7 @@ fn run_lists(
     output::print_list(safe_highs);
     output::print_list(weights);
     output::print_list(parents);
-    output::end_line();
+    end_line();
 }
 
 // The same for the parts of lists that a case names.
@@ -174,7 +172,7 @@ fn run_buffer(case: WriteCase, masses: &[u32], buffer: &mut [u8])
     );
     output::print_written(answer);
     output::print_bytes(&buffer[0..k]);
-    output::end_line();
+    end_line();
 }
 
 // The same for Write an answer.
@@ -194,20 +192,20 @@ fn run_write(text: &[u8], at: usize) -> usize
 fn run_case(text: &[u8], at: usize) -> usize
     requires { ⌜ at ≤ length (now text) ⌝ }
 {
-    let kind = input::read(text, at);
+    let kind = read_unsigned(text, at);
     if kind.value == 1 {
-        return input::skip(text, run_read(text, kind.next));
+        return skip(text, run_read(text, kind.next));
     }
     if kind.value == 2 {
-        return input::skip(text, run_write(text, kind.next));
+        return skip(text, run_write(text, kind.next));
     }
-    output::show_no_kind();
-    input::skip(text, kind.next)
+    show_no_kind();
+    skip(text, kind.next)
 }
 
 // Runs all cases. Each takes at least a byte, so that the loop ends whatever the bytes are.
 fn run_all(text: &[u8]) {
-    let mut at = input::skip(text, 0);
+    let mut at = skip(text, 0);
     while at < text.len() {
         at = later(at + 1, run_case(text, at));
     }

@@ -1,6 +1,10 @@
 // What a call answered, and check numbers of the lists after it, as a line of text. A check number starts at 0; each entry in turn makes
 // it 31 times what it was, and the entry, modulo 4294967291. A target counts as its word in two's complement.
 ghost use Prim.Native.Nat.{_<_, _≤_};
+use cases::output::print_named;
+use cases::output::print_number;
+use cases::output::print_refusal;
+use cases::output::wide;
 use formats::AnswerWritten;
 use formats::FieldRead;
 use libc::STDOUT_FILENO;
@@ -8,13 +12,7 @@ use numbers::inner::above;
 use numbers::inner::smaller;
 use numbers::inner::stored_index;
 
-// An entry as a number of 64 bits.
-fn wide(x: u32) -> u64
-    ensures { λ r. ⌜ r ≤ 4294967295 ⌝ }
-{
-    x as u64
-}
-
+// A byte as a number of 64 bits.
 fn wide_byte(x: u8) -> u64
     ensures { λ r. ⌜ r ≤ 4294967295 ⌝ }
 {
@@ -76,12 +74,6 @@ fn check_bytes(xs: &[u8]) -> u64 {
     check
 }
 
-// A space and a number.
-fn print_number(x: u64) {
-    io::write_all(STDOUT_FILENO, b" ");
-    io::print_decimal(STDOUT_FILENO, x);
-}
-
 // A space and the check number of a list.
 pub fn print_targets(xs: &[i32]) {
     print_number(check_targets(xs));
@@ -95,13 +87,6 @@ pub fn print_bytes(xs: &[u8]) {
     print_number(check_bytes(xs));
 }
 
-// A refusal's number and place.
-fn print_refusal(number: u32, place: u32) {
-    io::write_all(STDOUT_FILENO, b"refused");
-    print_number(wide(number));
-    print_number(wide(place));
-}
-
 // What reading answered: n, m and M, or the refusal.
 pub fn print_read(answer: FieldRead) {
     match answer {
@@ -110,8 +95,7 @@ pub fn print_read(answer: FieldRead) {
             nodes,
             total,
         } => {
-            io::write_all(STDOUT_FILENO, b"read");
-            print_number(stored_index(cells));
+            print_named(b"read", stored_index(cells));
             print_number(stored_index(nodes));
             print_number(wide(total));
         }
@@ -122,25 +106,12 @@ pub fn print_read(answer: FieldRead) {
 // What writing answered: the length of the file, or the refusal.
 pub fn print_written(answer: AnswerWritten) {
     match answer {
-        AnswerWritten::Bytes(length) => {
-            io::write_all(STDOUT_FILENO, b"bytes");
-            print_number(stored_index(length));
-        }
+        AnswerWritten::Bytes(length) => print_named(b"bytes", stored_index(length)),
         AnswerWritten::Refused { number, place } => print_refusal(number, place),
     }
-}
-
-// The end of a line.
-pub fn end_line() {
-    io::write_all(STDOUT_FILENO, b"\n");
 }
 
 // A line that says that a file is missing.
 pub fn show_no_file() {
     io::write_all(STDOUT_FILENO, b"no such file\n");
-}
-
-// The line of a case of no known kind.
-pub fn show_no_kind() {
-    io::write_all(STDOUT_FILENO, b"no such kind\n");
 }

@@ -1,4 +1,5 @@
 pub mod CallLaws
 pub mod FileCallLaws
+pub mod AnswerLaws
 pub mod OwnLaws
 pub mod RunLaws

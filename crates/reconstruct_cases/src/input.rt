@@ -1,20 +1,12 @@
-// Whole numbers from text: digits, with a `-` in front or none, and spaces and line ends between numbers. A number beyond the range of
-// signed 64 bits is read as the end of the range. Past the text, and where any other byte stands, a number is 0 and takes no byte.
-ghost use Prim.Native.Nat.{_+_, _≤_, _<_};
+// The cases, from the whole numbers of the text, as `cases` reads them.
+ghost use Prim.Native.Nat.{_+_, _≤_};
 ghost use lib.ListN.{length};
 ghost use Rattle.reconstruct_cases.specs.Cases.{InOrder};
+use cases::input::read_signed;
 use numbers::inner::above;
-use numbers::inner::difference;
 use numbers::inner::index;
 use numbers::inner::larger;
-use numbers::inner::signed;
 use numbers::inner::smaller;
-
-// A number, and the position behind it.
-struct Number {
-    value: i64,
-    next: usize,
-}
 
 // Where a list ends among lists that stand one behind the other, and the position behind its length in the text.
 struct End {
@@ -45,117 +37,6 @@ pub struct Case {
     pub next: usize,
 }
 
-// Whether a byte is a digit.
-fn is_digit(b: u8) -> bool {
-    b'0' <= b && b <= b'9'
-}
-
-// Whether a byte stands between numbers.
-fn is_separator(b: u8) -> bool {
-    b == b' ' || b == b'\n'
-}
-
-// Whether a byte is a digit, or, if `digits` is false, a separator.
-fn is_of(digits: bool, b: u8) -> bool {
-    if digits { is_digit(b) } else { is_separator(b) }
-}
-
-// The first position from `at` on that has no digit, or, if `digits` is false, no separator.
-fn past(digits: bool, text: &[u8], at: usize) -> usize
-    requires { ⌜ at ≤ length (now text) ⌝ }
-    ensures { λ r. ⌜ (at ≤ r) × (r ≤ length (now (text .entry))) ⌝ }
-{
-    let mut i = at;
-    while i < text.len() {
-        if !is_of(digits, text[i]) {
-            return i;
-        }
-        i += 1;
-    }
-    i
-}
-
-// The first position from `at` on that has no separator.
-pub fn skip(text: &[u8], at: usize) -> usize
-    requires { ⌜ at ≤ length (now text) ⌝ }
-    ensures { λ r. ⌜ (at ≤ r) × (r ≤ length (now (text .entry))) ⌝ }
-{
-    past(false, text, at)
-}
-
-// The position behind a sign, if one stands at `at`.
-fn past_sign(text: &[u8], at: usize) -> usize
-    requires { ⌜ at ≤ length (now text) ⌝ }
-    ensures { λ r. ⌜ (at ≤ r) × (r ≤ length (now (text .entry))) ⌝ }
-{
-    if at < text.len() {
-        if text[at] == b'-' {
-            return at + 1;
-        }
-    }
-    at
-}
-
-// What a digit stands for.
-fn digit(b: u8) -> u64
-    ensures { λ r. ⌜ r < 256 ⌝ }
-{
-    if b < b'0' {
-        return 0;
-    }
-    (b - b'0') as u64
-}
-
-// A size with one digit more, or 2 ^ 63 if that is less.
-fn grown(size: u64, b: u8) -> u64 {
-    if 922337203685477580 < size {
-        return 9223372036854775808;
-    }
-    smaller(size * 10 + digit(b), 9223372036854775808)
-}
-
-// What digits stand for, or 2 ^ 63 if that is less.
-fn size_of(digits: &[u8]) -> u64 {
-    let mut size: u64 = 0;
-    let mut i: usize = 0;
-    while i < digits.len() {
-        size = grown(size, digits[i]);
-        i += 1;
-    }
-    size
-}
-
-// The number that is as far below 0, or the least of the range if that is nearer.
-fn negated(size: u64) -> i64 {
-    if 9223372036854775807 < size {
-        return -9223372036854775808;
-    }
-    difference(0, size)
-}
-
-// The number with a size and a sign, or the end of the range if that is nearer to 0.
-fn with_sign(negative: bool, size: u64) -> i64 {
-    if negative {
-        return negated(size);
-    }
-    signed(smaller(size, 9223372036854775807))
-}
-
-// The number at `at`, past separators.
-fn read(text: &[u8], at: usize) -> Number
-    requires { ⌜ at ≤ length (now text) ⌝ }
-    ensures { λ r. ⌜ (at ≤ r .next) × (r .next ≤ length (now (text .entry))) ⌝ }
-{
-    let start = skip(text, at);
-    let first = past_sign(text, start);
-    let next = past(true, text, first);
-    let size = size_of(&text[first..next]);
-    Number {
-        value: with_sign(start < first, size),
-        next,
-    }
-}
-
 // The number as a target, or the end of that range if the number is beyond it.
 fn target(x: i64) -> i32 {
     if x < -2147483648 {
@@ -169,7 +50,7 @@ fn target(x: i64) -> i32 {
 
 // The number as an unsigned one of 32 bits, or the end of that range if the number is beyond it.
 fn word(x: i64) -> u32 {
-    smaller(above(x), 4294967295) as u32
+    cases::input::word(above(x))
 }
 
 // Where a list ends that starts at `start`, by its length at `at` in the text, which counts as 0 if it is less and as `most` if it is more.
@@ -177,7 +58,7 @@ fn read_end(text: &[u8], at: usize, start: usize, most: u64) -> End
     requires { ⌜ (at ≤ length (now text)) × (start ≤ 10000) × (most ≤ 10000) ⌝ }
     ensures { λ r. ⌜ (start ≤ r .end) × (r .end ≤ start + most) × (r .next ≤ length (now (text .entry))) ⌝ }
 {
-    let number = read(text, at);
+    let number = read_signed(text, at);
     let length = index(smaller(above(number.value), most));
     End {
         end: start + length,
@@ -200,7 +81,7 @@ pub fn read_case(text: &[u8], at: usize) -> Case
     let parents = read_end(text, weights.next, weights.end, 1100);
     let masses = read_end(text, parents.next, 0, 600);
     let scratch = read_end(text, masses.next, 0, 6600);
-    let total = read(text, scratch.next);
+    let total = read_signed(text, scratch.next);
     Case {
         targets: targets.end,
         lows: lows.end,
@@ -228,8 +109,8 @@ fn taken(text: &[u8], left: u64, value: i64, next: usize) -> Run
             next,
         };
     }
-    let count = read(text, next);
-    let number = read(text, count.next);
+    let count = read_signed(text, next);
+    let number = read_signed(text, count.next);
     Run {
         left: larger(above(count.value), 1) - 1,
         value: number.value,

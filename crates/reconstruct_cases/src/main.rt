@@ -9,22 +9,17 @@
 // A line has `done` with outcome, total and change, or `refused` with number and place; then the masses as the call left them, up to 16
 // of them, or of more their sum and a check number; then `scratch`, how many of its first 6 × m numbers are 0, how many of the later
 // ones are still 5, and how many of the first. The cases end with the input, of which at most 65,536 bytes are read.
-// Relies on `reconstruct`, which it tests, `qlt` for the answer, `numbers`, and the kit's `io` and `libc`.
+// Relies on `reconstruct`, which it tests, `qlt` for the answer, `cases`, `numbers`, and the kit's `io` and `libc`.
 ghost use Prim.Native.Nat.{_≤_};
 ghost use lib.ListN.{length};
 ghost use Rattle.reconstruct_cases.specs.Cases.{InOrder};
+use cases::input::later;
+use cases::input::skip;
 use input::Case;
 use qlt::Reconstructed;
 
 mod input;
 mod output;
-
-// The later of two positions.
-fn later(a: usize, b: usize) -> usize
-    ensures { λ r. ⌜ a ≤ r ⌝ }
-{
-    if a < b { b } else { a }
-}
 
 // Calls Reconstruct on the lists of a case, of which all but the targets stand in `values` one behind the other.
 fn call(
@@ -88,12 +83,12 @@ fn run_case(text: &[u8], at: usize) -> usize
     let mut masses = [7u32; 600];
     let mut scratch = [5i64; 6600];
     run_lists(case, &targets, &values, &mut masses, &mut scratch);
-    input::skip(text, next)
+    skip(text, next)
 }
 
 // Runs all cases. Each takes at least a byte, so that the loop ends whatever the bytes are.
 fn run_all(text: &[u8]) {
-    let mut at = input::skip(text, 0);
+    let mut at = skip(text, 0);
     while at < text.len() {
         at = later(at + 1, run_case(text, at));
     }

@@ -4,7 +4,8 @@
 // many shapes in all three outcomes, and files that are refused, by Reconstruct or in reading. Of a file at most 18,433 bytes are read, one
 // more than the largest has. The report is written to a buffer of 16,384 bytes: the listing, or the line of the file's refusal. The last
 // line is a refusal of the operation itself: file 0 once more, with a buffer that is a byte too short.
-// Relies on `report`, which it tests, and the kit's `io`, `os` and `libc`.
+// Relies on `report`, which it tests, `cases`, and the kit's `io`, `os` and `libc`.
+use cases::output::show_refusal;
 use libc::STDOUT_FILENO;
 use report::Reported;
 
@@ -29,20 +30,6 @@ fn open(number: u64) -> i32 {
     os::open_read(&name)
 }
 
-// A space and a number.
-fn print_number(x: u32) {
-    io::write_all(STDOUT_FILENO, b" ");
-    io::print_decimal(STDOUT_FILENO, x as u64);
-}
-
-// The line of a refusal of the operation itself.
-fn print_refusal(number: u32, place: u32) {
-    io::write_all(STDOUT_FILENO, b"refused");
-    print_number(number);
-    print_number(place);
-    io::write_all(STDOUT_FILENO, b"\n");
-}
-
 // Reports a file's bytes in a buffer, and prints the text.
 fn print_report(file: &[u8], out: &mut [u8]) {
     match report::report(file, out) {
@@ -50,7 +37,7 @@ fn print_report(file: &[u8], out: &mut [u8]) {
             io::write_all(STDOUT_FILENO, &out[..k]);
         }
         Reported::Refused { number, place } => {
-            print_refusal(number, place);
+            show_refusal(number, place);
         }
     }
 }

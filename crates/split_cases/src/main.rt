@@ -4,21 +4,16 @@
 // highs, weights and masses (below 0 is taken as 0, above 600 as 600) and the total; then come the targets, lows, highs and weights.
 // Before the call each mass is 7. A line has `done`, or `refused` with number and place, and then the masses as the call left them: up
 // to 16 of them, or of more their sum and a check number. The cases end with the input, of which at most 65,536 bytes are read.
-// Relies on `split`, which it tests, `caas` for the answer, `numbers`, and the kit's `io` and `libc`.
+// Relies on `split`, which it tests, `caas` for the answer, `cases`, `numbers`, and the kit's `io` and `libc`.
 ghost use Prim.Native.Nat.{_+_, _≤_};
 ghost use lib.ListN.{length};
 use caas::SplitAnswer;
+use cases::input::later;
+use cases::input::skip;
 use input::Case;
 
 mod input;
 mod output;
-
-// The later of two positions.
-fn later(a: usize, b: usize) -> usize
-    ensures { λ r. ⌜ a ≤ r ⌝ }
-{
-    if a < b { b } else { a }
-}
 
 // Calls Split on the lists of a case, which stand in `values` one behind the other.
 fn call(case: Case, values: &[i64], masses: &mut [i64]) -> SplitAnswer
@@ -58,12 +53,12 @@ fn run_case(text: &[u8], at: usize) -> usize
     let next = input::fill(text, case.next, n, &mut values);
     let mut masses = [7i64; 600];
     run_lists(case, &values, &mut masses);
-    input::skip(text, next)
+    skip(text, next)
 }
 
 // Runs all cases. Each takes at least a byte, so that the loop ends whatever the bytes are.
 fn run_all(text: &[u8]) {
-    let mut at = input::skip(text, 0);
+    let mut at = skip(text, 0);
     while at < text.len() {
         at = later(at + 1, run_case(text, at));
     }

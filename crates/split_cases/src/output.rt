@@ -1,37 +1,20 @@
 // What a call answered, and the masses after it, as a line of text.
 ghost use Prim.Native.Nat.{_<_};
 use caas::SplitAnswer;
+use cases::output::end_line;
+use cases::output::print_named;
+use cases::output::print_refusal;
+use cases::output::print_signed;
+use cases::output::size;
 use libc::STDOUT_FILENO;
-use numbers::inner::above;
 use numbers::inner::is_negative;
-
-// How far a number is from 0.
-fn size(x: i64) -> u64 {
-    if x < 0 {
-        return above(-1 - x) + 1;
-    }
-    above(x)
-}
-
-// A sign, if the number is below 0.
-fn print_sign(x: i64) {
-    if is_negative(x) {
-        io::write_all(STDOUT_FILENO, b"-");
-    }
-}
-
-// A space and a number.
-fn print_mass(x: i64) {
-    io::write_all(STDOUT_FILENO, b" ");
-    print_sign(x);
-    io::print_decimal(STDOUT_FILENO, size(x));
-}
+use numbers::inner::sum_above;
 
 // Each number of a list.
 fn print_masses(xs: &[i64]) {
     let mut i: usize = 0;
     while i < xs.len() {
-        print_mass(xs[i]);
+        print_signed(xs[i]);
         i += 1;
     }
 }
@@ -68,10 +51,8 @@ fn check_number(xs: &[i64]) -> u64 {
 
 // The sum of what the masses have above 0, or 2 ^ 31 if that is less, and the check number, which counts masses below 0 too.
 fn print_check(xs: &[i64]) {
-    io::write_all(STDOUT_FILENO, b" sum ");
-    io::print_decimal(STDOUT_FILENO, numbers::inner::sum_above(xs));
-    io::write_all(STDOUT_FILENO, b" check ");
-    io::print_decimal(STDOUT_FILENO, check_number(xs));
+    print_named(b" sum", sum_above(xs));
+    print_named(b" check", check_number(xs));
 }
 
 // The answer: done, or the refusal's number and place.
@@ -80,12 +61,7 @@ fn print_answer(answer: SplitAnswer) {
         SplitAnswer::Done => {
             io::write_all(STDOUT_FILENO, b"done");
         }
-        SplitAnswer::Refused { number, place } => {
-            io::write_all(STDOUT_FILENO, b"refused ");
-            io::print_decimal(STDOUT_FILENO, number as u64);
-            io::write_all(STDOUT_FILENO, b" ");
-            io::print_decimal(STDOUT_FILENO, place as u64);
-        }
+        SplitAnswer::Refused { number, place } => print_refusal(number, place),
     }
 }
 
@@ -97,5 +73,5 @@ pub fn show(answer: SplitAnswer, masses: &[i64]) {
     } else {
         print_masses(masses);
     }
-    io::write_all(STDOUT_FILENO, b"\n");
+    end_line();
 }

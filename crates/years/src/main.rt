@@ -2,7 +2,7 @@
 // with a fault, and prints a line every 500 calls: the calls accepted and refused, the total standing, and the sum and a check number of
 // the kept masses. The sum must be the total in every line. `stdout` was written by an implementation of 01's own words in another
 // language, and not by this program. Masses stay far below 1000000000, so that the remainders by it, which rule out overflow, change none.
-// Relies on `kept`, which it tests, `account` and `qlt` for the answers, `numbers` in proofs, and the kit's `io` and `libc`.
+// Relies on `kept`, which it tests, `account` and `qlt` for the answers, `cases`, and `numbers` in proofs.
 ghost use Prim.Native.Nat.{_<_, _≤_};
 use account::Opened;
 use account::Stepped;

@@ -25,8 +25,8 @@ write-all-requires c κs = search needs
 enum-known-number : tie.Need-enum-known-number
 enum-known-number c = search needs
 
-print-refusal-requires : tie.Need-print-refusal-requires
-print-refusal-requires c κs = search needs
+show-refusal-requires : tie.Need-show-refusal-requires
+show-refusal-requires c κs = search needs
 
 same-length : tie.Need-same-length
 same-length c = search needs
@@ -50,7 +50,7 @@ print-report-spec =
     slice-aggregate-write-all
     write-all-requires
     enum-known-number
-    print-refusal-requires
+    show-refusal-requires
     same-length
     returns
     same-length-2

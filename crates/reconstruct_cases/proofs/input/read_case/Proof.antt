@@ -31,8 +31,8 @@ read-end-requires-8 c κs = search needs
 read-end-requires-9 : tie.Need-read-end-requires-9
 read-end-requires-9 c κs = search needs
 
-read-requires : tie.Need-read-requires
-read-requires c κs = search needs
+read-signed-requires : tie.Need-read-signed-requires
+read-signed-requires c κs = search needs
 
 word-requires : tie.Need-word-requires
 word-requires c κs = search needs
@@ -64,6 +64,6 @@ read-case-spec =
     read-end-requires-7
     read-end-requires-8
     read-end-requires-9
-    read-requires
+    read-signed-requires
     word-requires
     returns)

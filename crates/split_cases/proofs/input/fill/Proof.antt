@@ -16,8 +16,8 @@ abbrev μ-loop : tie.MeasureT-loop
 loop-holds : tie.Need-loop-holds Inv-loop μ-loop
 loop-holds c = omega arith
 
-read-requires : tie.Need-read-requires Inv-loop μ-loop
-read-requires c κs = omega arith
+read-signed-requires : tie.Need-read-signed-requires Inv-loop μ-loop
+read-signed-requires c κs = omega arith
 
 mul-value : tie.Need-mul-value Inv-loop μ-loop
 mul-value c = omega arith
@@ -47,7 +47,7 @@ fill-spec =
     Inv-loop
     μ-loop
     loop-holds
-    read-requires
+    read-signed-requires
     mul-value
     slice-set-from-value
     add-i

@@ -15,14 +15,14 @@ abbrev μ-loop : tie.MeasureT-loop
 loop-holds : tie.Need-loop-holds Inv-loop μ-loop
 loop-holds c = omega arith
 
-mul-print-mass : tie.Need-mul-print-mass Inv-loop μ-loop
-mul-print-mass c = search needs
+mul-print-signed : tie.Need-mul-print-signed Inv-loop μ-loop
+mul-print-signed c = search needs
 
-shared-slice-copy-out-print-mass : tie.Need-shared-slice-copy-out-print-mass Inv-loop μ-loop
-shared-slice-copy-out-print-mass c = omega arith
+shared-slice-copy-out-print-signed : tie.Need-shared-slice-copy-out-print-signed Inv-loop μ-loop
+shared-slice-copy-out-print-signed c = omega arith
 
-print-mass-requires : tie.Need-print-mass-requires Inv-loop μ-loop
-print-mass-requires c κs = search needs
+print-signed-requires : tie.Need-print-signed-requires Inv-loop μ-loop
+print-signed-requires c κs = search needs
 
 add-i : tie.Need-add-i Inv-loop μ-loop
 add-i c = omega arith
@@ -43,9 +43,9 @@ print-masses-spec =
     Inv-loop
     μ-loop
     loop-holds
-    mul-print-mass
-    shared-slice-copy-out-print-mass
-    print-mass-requires
+    mul-print-signed
+    shared-slice-copy-out-print-signed
+    print-signed-requires
     add-i
     loop-less
     loop-again

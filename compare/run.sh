@@ -1,0 +1,18 @@
+#!/bin/sh
+# Builds the comparison program against the proved library and runs it: run.sh [SCALE], a percentage of the usual number of inputs.
+# `run.sh benchmark` measures the library against the second implementation instead. Library and program are taken from ../target.
+set -eu
+cd "$(dirname "$0")"
+target=$(cd ../target && pwd)
+library=$target/staticlib
+program=$target/bin/legzhuro
+# The library's checksum is among the flags, so that another library means another build.
+sum=$(cksum <"$library/liblegzhuro_c.a" | tr ' ' '-')
+RUSTFLAGS="-L native=$library -C metadata=$sum"
+CARGO_TARGET_DIR=$target/compare
+export RUSTFLAGS CARGO_TARGET_DIR
+cargo build --release --offline --quiet
+if [ "${1:-}" = benchmark ]; then
+    exec "$CARGO_TARGET_DIR/release/benchmark"
+fi
+exec "$CARGO_TARGET_DIR/release/compare" "$program" "$@"

@@ -1,0 +1,103 @@
+//! Measures a step and the call on a field file at 8, 64 and 512 cells on flat, binary and chain trees: the proved library against the
+//! second implementation. Every number is the median over batches; both sides take turns, so that both meet the same weather.
+
+use compare::calls;
+use compare::files::{answer_file_length, reconstruct_file, write_field, FileDesk};
+use compare::operations::step;
+use compare::random::{binary, chain, flat, partition, Random};
+use compare::tree::{sum, Desk, Field};
+use std::hint::black_box;
+use std::time::Instant;
+
+const BATCHES: usize = 15;
+/// Least time of a batch, in seconds.
+const BATCH: f64 = 0.01;
+
+/// Nanoseconds for each of so many calls.
+fn time(call: &mut dyn FnMut(), repetitions: u64) -> f64 {
+    let started = Instant::now();
+    for _ in 0..repetitions {
+        call();
+    }
+    started.elapsed().as_secs_f64() * 1e9 / repetitions as f64
+}
+
+fn median(mut times: Vec<f64>) -> f64 {
+    times.sort_by(f64::total_cmp);
+    times[times.len() / 2]
+}
+
+/// Median nanoseconds for a call of each side.
+fn measure(library: &mut dyn FnMut(), second: &mut dyn FnMut()) -> (f64, f64) {
+    let slower = time(library, 20).max(time(second, 20));
+    let repetitions = (BATCH * 1e9 / slower) as u64 + 1;
+    let (mut of_library, mut of_second) = (Vec::new(), Vec::new());
+    for _ in 0..BATCHES {
+        of_library.push(time(library, repetitions));
+        of_second.push(time(second, repetitions));
+    }
+    (median(of_library), median(of_second))
+}
+
+/// A field with work to do at every node: some targets out of bounds, weights, and a total that the clipped targets miss.
+fn make_field(random: &mut Random, parents: Vec<u32>, cells: usize) -> (Field, u32) {
+    let mut field = Field { parents, ..Field::default() };
+    for _ in 0..cells {
+        let low = random.below(1000) as u32;
+        let high = low + 1 + random.below(1000) as u32;
+        field.lows.push(low);
+        field.highs.push(high);
+        field.safe_lows.push(low / 2);
+        field.safe_highs.push(high + 500);
+        field.weights.push(random.below(100) as u32);
+        field.targets.push(random.between(i64::from(low) - 300, i64::from(high) + 300) as i32);
+    }
+    let total = (sum(&field.lows) + 2 * sum(&field.highs)) / 3;
+    (field, total as u32)
+}
+
+fn print_line(call: &str, shape: &str, field: &Field, (library, second): (f64, f64)) {
+    let (cells, nodes) = (field.targets.len(), field.parents.len());
+    println!(
+        "{call:<5} {shape:<7} {cells:>5} {nodes:>5} {library:>12.0} {second:>12.0} {:>7.2} {:>12.1} {:>12.1}",
+        library / second,
+        library / nodes as f64,
+        second / nodes as f64
+    );
+}
+
+/// Steps with source 0: each one leads to the total again, so they are all accepted.
+fn measure_step(random: &mut Random, field: &Field, total: u32) -> (f64, f64) {
+    let mut kept = partition(random, total, field.targets.len());
+    let (mut kept_too, lists, mut desk) = (kept.clone(), field.lists(), Desk::default());
+    let (mut scratch, mut answer) = (vec![0; 6 * field.parents.len()], [0; 3]);
+    let (mut scratch_too, mut answer_too) = (scratch.clone(), answer);
+    let mut library = || assert!(calls::step(total, black_box(&mut kept), 0, black_box(&lists), &mut scratch, &mut answer) == 0);
+    let mut second =
+        || assert!(step(&mut desk, total, black_box(&mut kept_too), 0, black_box(&lists), &mut scratch_too, &mut answer_too).is_ok());
+    measure(&mut library, &mut second)
+}
+
+fn measure_file(field: &Field, total: u32) -> (f64, f64) {
+    let (file, mut desk) = (write_field(field, total), FileDesk::default());
+    let mut answer = vec![0; answer_file_length(field.targets.len())];
+    let mut answer_too = answer.clone();
+    let mut library = || assert!(calls::reconstruct(black_box(&file), black_box(&mut answer)) == 0);
+    let mut second = || assert!(reconstruct_file(&mut desk, black_box(&file), black_box(&mut answer_too)).is_ok());
+    measure(&mut library, &mut second)
+}
+
+fn main() {
+    let mut random = Random::new(512);
+    println!("Nanoseconds for each call; ratio is library to second implementation; the last two columns are nanoseconds for each node.");
+    println!("call  tree    cells nodes      library       second   ratio library/node  second/node");
+    for call in ["step", "file"] {
+        for cells in [8, 64, 512] {
+            for (shape, parents) in [("flat", flat(cells)), ("binary", binary(cells)), ("chain", chain(cells))] {
+                let (field, total) = make_field(&mut random, parents, cells);
+                let times = if call == "step" { measure_step(&mut random, &field, total) } else { measure_file(&field, total) };
+                print_line(call, shape, &field, times);
+            }
+        }
+    }
+}

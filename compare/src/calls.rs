@@ -1,0 +1,124 @@
+//! The calls from C of the proved library, as `legzhuro.h` declares them, and safe wrappers: a slice goes as its pointer and its length.
+
+use crate::tree::Lists;
+
+#[link(name = "legzhuro_c", kind = "static")]
+extern "C" {
+    fn legzhuro_reconstruct(file: *const u8, file_len: usize, answer: *mut u8, answer_len: usize) -> u32;
+    fn legzhuro_split(
+        targets: *const i64,
+        targets_len: usize,
+        lows: *const i64,
+        lows_len: usize,
+        highs: *const i64,
+        highs_len: usize,
+        weights: *const i64,
+        weights_len: usize,
+        total: i64,
+        masses: *mut i64,
+        masses_len: usize,
+    ) -> u64;
+    fn legzhuro_open(kept: *const u32, kept_len: usize, answer: *mut u64, answer_len: usize) -> u64;
+    fn legzhuro_step(
+        total: u32,
+        kept: *mut u32,
+        kept_len: usize,
+        source: i32,
+        targets: *const i32,
+        targets_len: usize,
+        lows: *const u32,
+        lows_len: usize,
+        highs: *const u32,
+        highs_len: usize,
+        safe_lows: *const u32,
+        safe_lows_len: usize,
+        safe_highs: *const u32,
+        safe_highs_len: usize,
+        weights: *const u32,
+        weights_len: usize,
+        parents: *const u32,
+        parents_len: usize,
+        scratch: *mut i64,
+        scratch_len: usize,
+        answer: *mut u64,
+        answer_len: usize,
+    ) -> u64;
+    fn legzhuro_import(
+        target: f64,
+        low: f64,
+        high: f64,
+        safe_low: f64,
+        safe_high: f64,
+        scale: u32,
+        units: *mut i64,
+        units_len: usize,
+    ) -> u64;
+    fn legzhuro_export(mass: u32, scale: u32, value: *mut f64, value_len: usize) -> u64;
+}
+
+// Safety of every wrapper: the pointers and lengths are those of slices, so they are valid, aligned and not null, and exclusive borrows
+// overlap nothing.
+
+pub fn reconstruct(file: &[u8], answer: &mut [u8]) -> u32 {
+    unsafe { legzhuro_reconstruct(file.as_ptr(), file.len(), answer.as_mut_ptr(), answer.len()) }
+}
+
+pub fn split(targets: &[i64], lows: &[i64], highs: &[i64], weights: &[i64], total: i64, masses: &mut [i64]) -> u64 {
+    unsafe {
+        legzhuro_split(
+            targets.as_ptr(),
+            targets.len(),
+            lows.as_ptr(),
+            lows.len(),
+            highs.as_ptr(),
+            highs.len(),
+            weights.as_ptr(),
+            weights.len(),
+            total,
+            masses.as_mut_ptr(),
+            masses.len(),
+        )
+    }
+}
+
+pub fn open(kept: &[u32], answer: &mut [u64]) -> u64 {
+    unsafe { legzhuro_open(kept.as_ptr(), kept.len(), answer.as_mut_ptr(), answer.len()) }
+}
+
+pub fn step(total: u32, kept: &mut [u32], source: i32, lists: &Lists, scratch: &mut [i64], answer: &mut [u64]) -> u64 {
+    unsafe {
+        legzhuro_step(
+            total,
+            kept.as_mut_ptr(),
+            kept.len(),
+            source,
+            lists.targets.as_ptr(),
+            lists.targets.len(),
+            lists.lows.as_ptr(),
+            lists.lows.len(),
+            lists.highs.as_ptr(),
+            lists.highs.len(),
+            lists.safe_lows.as_ptr(),
+            lists.safe_lows.len(),
+            lists.safe_highs.as_ptr(),
+            lists.safe_highs.len(),
+            lists.weights.as_ptr(),
+            lists.weights.len(),
+            lists.parents.as_ptr(),
+            lists.parents.len(),
+            scratch.as_mut_ptr(),
+            scratch.len(),
+            answer.as_mut_ptr(),
+            answer.len(),
+        )
+    }
+}
+
+pub fn import(doubles: [f64; 5], scale: u32, units: &mut [i64]) -> u64 {
+    let [target, low, high, safe_low, safe_high] = doubles;
+    unsafe { legzhuro_import(target, low, high, safe_low, safe_high, scale, units.as_mut_ptr(), units.len()) }
+}
+
+pub fn export(mass: u32, scale: u32, value: &mut [f64]) -> u64 {
+    unsafe { legzhuro_export(mass, scale, value.as_mut_ptr(), value.len()) }
+}

@@ -1,0 +1,400 @@
+//! Split, Open, Step, Import and Export through the calls from C, held to the second implementation: the value returned and every lent
+//! list at exit, entry by entry.
+
+use crate::operations::{self, returned, LIMIT};
+use crate::random::{self, Random};
+use crate::tally::Tally;
+use crate::tree::{Desk, Field};
+use crate::{calls, doubles};
+
+/// How often inputs are broken: mostly not, and rarely in several ways at once, so that the order of the checks shows.
+fn breaks(random: &mut Random) -> u64 {
+    match random.below(10) {
+        0..=5 => 0,
+        6..=8 => 1,
+        _ => random.between(2, 3) as u64,
+    }
+}
+
+/// A number of cells that is out of range or next to it; rarely one that only looks right in 16 bits.
+fn wrong_count(random: &mut Random) -> usize {
+    if random.chance(2) {
+        65536 + 8
+    } else {
+        random.pick(&[0, 0, 1, 511, 512, 513, 514, 700])
+    }
+}
+
+/// Makes a list shorter or longer by some entries.
+fn stretch<T: Copy>(random: &mut Random, list: &mut Vec<T>, filler: T) {
+    let length = match random.below(4) {
+        0 => 0,
+        1 => list.len().saturating_sub(1),
+        2 => list.len() + 1,
+        _ => random.index(2 * list.len() + 2),
+    };
+    list.resize(length, filler);
+}
+
+/// Any bits: what a lent list holds before the call.
+fn leftovers<T>(random: &mut Random, length: usize, make: impl Fn(u64) -> T) -> Vec<T> {
+    (0..length).map(|_| make(random.bits())).collect()
+}
+
+// ---- split ----
+
+#[derive(Clone, Debug)]
+pub struct SplitCall {
+    pub targets: Vec<i64>,
+    pub lows: Vec<i64>,
+    pub highs: Vec<i64>,
+    pub weights: Vec<i64>,
+    pub total: i64,
+    pub masses: Vec<i64>,
+}
+
+/// Runs both sides; returns the masses of the second implementation.
+pub fn compare_split(tally: &mut Tally, call: &SplitCall) -> (u64, Vec<i64>) {
+    let (mut mine, mut theirs) = (call.masses.clone(), call.masses.clone());
+    let expected = returned(operations::split(&call.targets, &call.lows, &call.highs, &call.weights, call.total, &mut mine));
+    let got = calls::split(&call.targets, &call.lows, &call.highs, &call.weights, call.total, &mut theirs);
+    tally.number(expected);
+    tally.input((expected, &mine) == (got, &theirs), || {
+        format!("split {call:?}: second implementation {expected:#x} {mine:?}, library {got:#x} {theirs:?}")
+    });
+    (expected, mine)
+}
+
+fn any_number(random: &mut Random) -> i64 {
+    let limit = LIMIT as i64;
+    match random.below(3) {
+        0 => random.pick(&[i64::MIN, i64::MAX, -1, 0, 1, limit, limit + 1, -limit, 1 << 32, 1 << 62]),
+        1 => random.between(-4, 4),
+        _ => random.bits() as i64,
+    }
+}
+
+fn some_list<'a>(random: &mut Random, call: &'a mut SplitCall) -> &'a mut Vec<i64> {
+    match random.below(4) {
+        0 => &mut call.lows,
+        1 => &mut call.highs,
+        2 => &mut call.weights,
+        _ => &mut call.masses,
+    }
+}
+
+fn break_split(random: &mut Random, call: &mut SplitCall) {
+    let value = any_number(random);
+    match random.below(10) {
+        0 | 1 => call.total = value,
+        2 => stretch(random, &mut call.targets, value),
+        3 => {
+            let length = wrong_count(random);
+            let SplitCall { targets, lows, highs, weights, masses, .. } = call;
+            for list in [targets, lows, highs, weights, masses] {
+                list.resize(length, 0);
+            }
+        }
+        4 | 5 => {
+            let list = some_list(random, call);
+            stretch(random, list, value);
+        }
+        _ => {
+            // One entry, or most of them.
+            let list = some_list(random, call);
+            let count = if random.chance(50) { 1 } else { list.len() };
+            for _ in 0..count.min(list.len()) {
+                let index = random.index(list.len());
+                list[index] = value;
+            }
+        }
+    }
+}
+
+fn make_split(random: &mut Random) -> SplitCall {
+    let cells = random::cell_count(random);
+    let field = random::field(random, cells);
+    let wide = |list: &[u32]| list.iter().map(|&value| i64::from(value)).collect::<Vec<i64>>();
+    let mut call = SplitCall {
+        targets: field.targets.iter().map(|&target| i64::from(target)).collect(),
+        lows: wide(&field.lows),
+        highs: wide(&field.highs),
+        weights: wide(&field.weights),
+        total: i64::from(random::total(random, &field)),
+        masses: leftovers(random, cells, |bits| bits as i64),
+    };
+    if random.chance(20) {
+        call.targets.iter_mut().for_each(|target| *target = any_number(random));
+    }
+    if random.chance(70) {
+        call.total = call.total.clamp(call.lows.iter().sum(), call.highs.iter().sum());
+    }
+    for _ in 0..breaks(random) {
+        break_split(random, &mut call);
+    }
+    call
+}
+
+pub fn splits(tally: &mut Tally, random: &mut Random, count: u64) {
+    for _ in 0..count {
+        compare_split(tally, &make_split(random));
+    }
+}
+
+// ---- open ----
+
+fn make_kept(random: &mut Random) -> Vec<u32> {
+    let cells = if random.chance(10) { random.pick(&[0, 511, 512, 513, 600, 1024]) } else { random::cell_count(random) };
+    if cells == 0 {
+        return Vec::new();
+    }
+    let total = random.pick(&[LIMIT as u32, LIMIT as u32 + 1, u32::MAX, 0, 1000]);
+    let mut kept = random::partition(random, total, cells);
+    if random.chance(20) {
+        let value = random.pick(&[u32::MAX, LIMIT as u32, LIMIT as u32 + 1, 0]);
+        let index = random.index(cells);
+        kept[index] = value;
+    }
+    kept
+}
+
+pub fn opens(tally: &mut Tally, random: &mut Random, count: u64) {
+    for _ in 0..count {
+        let kept = make_kept(random);
+        let length = random.pick(&[0, 1, 1, 2, 5]);
+        let mut mine = leftovers(random, length, |bits| bits);
+        let mut theirs = mine.clone();
+        let expected = returned(operations::open(&kept, &mut mine));
+        let got = calls::open(&kept, &mut theirs);
+        tally.number(expected);
+        tally.input((expected, &mine) == (got, &theirs), || {
+            format!("open {kept:?}: second implementation {expected:#x} {mine:?}, library {got:#x} {theirs:?}")
+        });
+    }
+}
+
+// ---- step ----
+
+#[derive(Clone, Debug)]
+pub struct StepCall {
+    pub total: u32,
+    pub kept: Vec<u32>,
+    pub source: i32,
+    pub field: Field,
+    pub scratch: Vec<i64>,
+    pub answer: Vec<u64>,
+}
+
+/// The value returned and the lists that a step may write, at exit.
+#[derive(Debug, PartialEq)]
+pub struct StepExit {
+    pub returned: u64,
+    pub kept: Vec<u32>,
+    pub scratch: Vec<i64>,
+    pub answer: Vec<u64>,
+}
+
+impl StepExit {
+    fn entry(call: &StepCall) -> StepExit {
+        StepExit { returned: 0, kept: call.kept.clone(), scratch: call.scratch.clone(), answer: call.answer.clone() }
+    }
+}
+
+/// Runs both sides; returns the exits of the second implementation and of the library.
+pub fn compare_step(tally: &mut Tally, desk: &mut Desk, call: &StepCall) -> (StepExit, StepExit) {
+    let (mut mine, mut theirs) = (StepExit::entry(call), StepExit::entry(call));
+    let lists = call.field.lists();
+    let result = operations::step(desk, call.total, &mut mine.kept, call.source, &lists, &mut mine.scratch, &mut mine.answer);
+    mine.returned = returned(result);
+    theirs.returned = calls::step(call.total, &mut theirs.kept, call.source, &lists, &mut theirs.scratch, &mut theirs.answer);
+    tally.number(mine.returned);
+    tally.input(mine == theirs, || format!("step {call:?}: second implementation {mine:?}, library {theirs:?}"));
+    (mine, theirs)
+}
+
+/// A step of the field to the total wanted, from any kept masses and source that lead to it.
+pub fn make_step(random: &mut Random, field: Field, wanted: u32) -> StepCall {
+    let source = match random.below(4) {
+        0 => 0,
+        1 => random.pick(&[i32::MIN, i32::MAX, -1, 1]),
+        2 => random.between(-1000, 1000) as i32,
+        _ => random.bits() as i32,
+    };
+    let total = (i64::from(wanted) - i64::from(source)).clamp(0, i64::from(u32::MAX)) as u32;
+    let spare = random.pick(&[0, 0, 1, 7]);
+    let longer = random.pick(&[0, 0, 1, 4]);
+    StepCall {
+        total,
+        kept: random::partition(random, total, field.targets.len()),
+        source: (i64::from(wanted) - i64::from(total)) as i32,
+        scratch: leftovers(random, 6 * field.parents.len() + spare, |bits| bits as i64),
+        answer: leftovers(random, 3 + longer, |bits| bits),
+        field,
+    }
+}
+
+/// Resizes every list that has an entry for each cell.
+fn resize_cells(call: &mut StepCall, length: usize) {
+    call.field.targets.resize(length, 0);
+    let Field { lows, highs, safe_lows, safe_highs, weights, .. } = &mut call.field;
+    for list in [lows, highs, safe_lows, safe_highs, weights, &mut call.kept] {
+        list.resize(length, 0);
+    }
+}
+
+fn break_kept(random: &mut Random, kept: &mut [u32]) {
+    if kept.is_empty() {
+        return;
+    }
+    let (from, to) = (random.index(kept.len()), random.index(kept.len()));
+    match random.below(3) {
+        // The sum stays the same modulo 2^32, and may pass it.
+        0 => {
+            kept[from] = kept[from].wrapping_sub(5);
+            kept[to] = kept[to].wrapping_add(5);
+        }
+        1 => kept[to] = kept[to].wrapping_add(1),
+        _ => kept[to] = random.bits() as u32,
+    }
+}
+
+pub fn break_step(random: &mut Random, call: &mut StepCall) {
+    let value = random::odd_number(random, &call.field);
+    match random.below(18) {
+        0..=4 => random::break_field(random, &mut call.field),
+        5 => stretch(random, &mut call.field.targets, -1),
+        6 => stretch(random, &mut call.field.lows, value),
+        7 => stretch(random, &mut call.field.highs, value),
+        8 => stretch(random, &mut call.field.safe_lows, value),
+        9 => stretch(random, &mut call.field.safe_highs, value),
+        10 => stretch(random, &mut call.field.weights, value),
+        11 => match random.below(2) {
+            0 => stretch(random, &mut call.field.parents, value),
+            _ => call.field.parents.resize(random.pick(&[0, 1, 1023, 1024, 1025, 1100]), value),
+        },
+        12 => stretch(random, &mut call.kept, value),
+        13 => match random.below(3) {
+            0 => call.scratch.truncate((6 * call.field.parents.len()).saturating_sub(1)),
+            1 => call.scratch.truncate(random.index(call.scratch.len() + 1)),
+            _ => call.answer.truncate(random.index(3)),
+        },
+        14 => break_kept(random, &mut call.kept),
+        15 => call.total = call.total.wrapping_add(random.pick(&[1, 2, u32::MAX, 1 << 31])),
+        16 => call.source = random.pick(&[i32::MIN, i32::MAX, value as i32]),
+        _ => resize_cells(call, wrong_count(random)),
+    }
+}
+
+pub fn steps(tally: &mut Tally, random: &mut Random, count: u64) {
+    let mut desk = Desk::default();
+    for _ in 0..count {
+        let cells = random::cell_count(random);
+        let field = random::field(random, cells);
+        let wanted = random::total(random, &field);
+        let mut call = make_step(random, field, wanted);
+        for _ in 0..breaks(random) {
+            break_step(random, &mut call);
+        }
+        compare_step(tally, &mut desk, &call);
+    }
+}
+
+// ---- doubles ----
+
+/// A double near a place where rounding or range matters, for a scale.
+fn make_double(random: &mut Random, scale: u32) -> f64 {
+    let limit = LIMIT as i64;
+    let down = f64::from_bits(u64::from(1023 - scale.min(40)) << 52);
+    let whole = match random.below(5) {
+        0 => random.between(-3, 3),
+        1 => random.pick(&[limit, limit + 1, limit - 1, -limit, -limit - 1, -limit - 2, 0]),
+        2 => random.between(-limit - 1, limit),
+        _ => random.between(0, limit),
+    };
+    let part = random.pick(&[0.0, 0.0, 0.5, -0.5, 0.25, 0.75, -0.25, 1e-6]);
+    let near = (whole as f64 + part) * down;
+    match random.below(16) {
+        0..=8 => near,
+        // A neighbour or two in the last place.
+        9 | 10 => f64::from_bits(near.to_bits().wrapping_add(random.between(-2, 2) as u64)),
+        11 => random.pick(&[0.0, -0.0, 5e-324, -5e-324, f64::MIN_POSITIVE, -f64::MIN_POSITIVE, f64::MAX, f64::MIN]),
+        12 => f64::from_bits(random.bits() & ((1 << 52) - 1) | random.below(2) << 63),
+        13 => random.pick(&[f64::INFINITY, f64::NEG_INFINITY, f64::NAN, f64::from_bits(0xfff0_0000_0000_0001)]),
+        14 => f64::from_bits(random.bits()),
+        // Any mantissa with a size around the range.
+        _ => f64::from_bits(random.bits() & 0x800f_ffff_ffff_ffff | (random.between(985, 1060) as u64) << 52) * down,
+    }
+}
+
+fn make_scale(random: &mut Random) -> u32 {
+    match random.below(20) {
+        0 => random.pick(&[31, 32, 33, 40, 63, 64, 1 << 31, u32::MAX]),
+        1 => random.below(41) as u32,
+        2..=5 => random.pick(&[0, 30]),
+        _ => random.below(31) as u32,
+    }
+}
+
+pub fn compare_import(tally: &mut Tally, doubles: [f64; 5], scale: u32, units: &[i64]) -> (u64, Vec<i64>) {
+    let (mut mine, mut theirs) = (units.to_vec(), units.to_vec());
+    let expected = returned(doubles::import(doubles, scale, &mut mine));
+    let got = calls::import(doubles, scale, &mut theirs);
+    tally.number(expected);
+    tally.input((expected, &mine) == (got, &theirs), || {
+        let bits = doubles.map(f64::to_bits);
+        format!("import {doubles:?} {bits:#x?} scale {scale}: second implementation {expected:#x} {mine:?}, library {got:#x} {theirs:?}")
+    });
+    (expected, mine)
+}
+
+pub fn imports(tally: &mut Tally, random: &mut Random, count: u64) {
+    for _ in 0..count {
+        let scale = make_scale(random);
+        let mut doubles = [0; 5].map(|_| make_double(random, scale));
+        // Mostly the first fields are sound, so that later ones are reached.
+        for double in doubles.iter_mut().take(random.index(6)) {
+            let sound = double.is_finite() && double.abs() * f64::from(1u32 << scale.min(30)) < 2147483647.0;
+            *double = if sound { double.abs() } else { 1.5 };
+        }
+        let length = random.pick(&[5, 5, 5, 5, 5, 5, 5, 5, 6, 6, 9, 4, 0]);
+        let units = leftovers(random, length, |bits| bits as i64);
+        compare_import(tally, doubles, scale, &units);
+    }
+}
+
+pub fn compare_export(tally: &mut Tally, mass: u32, scale: u32, value: &[f64]) -> (u64, Vec<u64>) {
+    let (mut mine, mut theirs) = (value.to_vec(), value.to_vec());
+    let expected = returned(doubles::export(mass, scale, &mut mine));
+    let got = calls::export(mass, scale, &mut theirs);
+    let bits = |list: &[f64]| list.iter().map(|double| double.to_bits()).collect::<Vec<u64>>();
+    let (mine, theirs) = (bits(&mine), bits(&theirs));
+    tally.number(expected);
+    tally.input((expected, &mine) == (got, &theirs), || {
+        format!("export {mass} scale {scale}: second implementation {expected:#x} {mine:#x?}, library {got:#x} {theirs:#x?}")
+    });
+    (expected, mine)
+}
+
+/// Exports, and imports what was exported in every field: it gives the mass again.
+pub fn exports(tally: &mut Tally, random: &mut Random, count: u64) {
+    for _ in 0..count {
+        let limit = LIMIT as u32;
+        let mass = match random.below(4) {
+            0 => random.pick(&[0, 1, 2, 3, limit, limit - 1, limit + 1, u32::MAX, 1 << 30]),
+            1 => 1 << random.below(32),
+            2 => random.bits() as u32,
+            _ => random.below(LIMIT + 1) as u32,
+        };
+        let scale = make_scale(random);
+        let length = random.pick(&[0, 1, 1, 1, 2, 3]);
+        let value = leftovers(random, length, f64::from_bits);
+        let (expected, bits) = compare_export(tally, mass, scale, &value);
+        if expected == 0 {
+            let double = f64::from_bits(bits[0]);
+            let (again, units) = compare_import(tally, [double; 5], scale, &[0; 5]);
+            if again != 0 || units != [i64::from(mass); 5] {
+                tally.difference(format!("export {mass} scale {scale}: imported again it is {again:#x} {units:?}"));
+            }
+        }
+    }
+}

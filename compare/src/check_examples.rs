@@ -1,0 +1,115 @@
+//! The examples E1 to E10 of 01 and its places where programs stray, run through the second implementation and the library both.
+
+use crate::check_calls::{compare_import, compare_split, SplitCall};
+use crate::files::{parse_answer, reconstruct_file, write_field, FileDesk, MAX_ANSWER_FILE};
+use crate::listing::listing;
+use crate::operations::{reconstruct, returned};
+use crate::tally::Tally;
+use crate::tree::{Desk, Field};
+use crate::{calls, random};
+
+fn expect<T: PartialEq + std::fmt::Debug>(tally: &mut Tally, name: &str, got: T, expected: T) {
+    tally.input(got == expected, || format!("{name}: {got:?}, and 01 says {expected:?}"));
+}
+
+/// A field whose cells have the same safe bounds and weights 0.
+fn field(parents: &[u32], targets: &[i32], lows: &[u32], highs: &[u32], safe: (u32, u32)) -> Field {
+    let cells = targets.len();
+    Field {
+        targets: targets.to_vec(),
+        lows: lows.to_vec(),
+        highs: highs.to_vec(),
+        safe_lows: vec![safe.0; cells],
+        safe_highs: vec![safe.1; cells],
+        weights: vec![0; cells],
+        parents: parents.to_vec(),
+    }
+}
+
+type Answer = Result<(u32, Vec<u32>, u64), (u32, u32)>;
+
+/// Outcome, masses and change, or the refusal, of both sides. The call on a file has no place: it is looked at as far as it goes.
+fn check_field(tally: &mut Tally, name: &str, field: &Field, total: u32, expected: Answer) {
+    let (mut masses, mut scratch) = (vec![7; field.targets.len()], vec![7; 6 * field.parents.len()]);
+    let mine = reconstruct(&mut Desk::default(), &field.lists(), total, &mut masses, &mut scratch)
+        .map(|repair| (repair.outcome, masses, repair.change))
+        .map_err(|refusal| (refusal.number, refusal.place));
+    expect(tally, name, mine, expected.clone());
+    let file = write_field(field, total);
+    let mut buffer = [0; MAX_ANSWER_FILE];
+    let number = calls::reconstruct(&file, &mut buffer);
+    let blocks = 1 + field.targets.len().div_ceil(125);
+    let theirs = match number {
+        0 => parse_answer(&buffer[..blocks * 512]).map(|(repair, masses)| (repair.outcome, masses, repair.change)).ok_or(0),
+        _ => Err(number),
+    };
+    expect(tally, name, theirs, expected.map_err(|refusal| refusal.0));
+}
+
+fn check_split(tally: &mut Tally, name: &str, lists: [&[i64]; 4], total: i64, expected: (u64, &[i64])) {
+    let [targets, lows, highs, weights] = lists.map(<[i64]>::to_vec);
+    let masses = vec![-9; targets.len()];
+    let (number, masses) = compare_split(tally, &SplitCall { targets, lows, highs, weights, total, masses });
+    expect(tally, name, (number, masses.as_slice()), expected);
+}
+
+fn check_import(tally: &mut Tally, name: &str, doubles: [f64; 5], expected: (u64, [i64; 5])) {
+    let (number, units) = compare_import(tally, doubles, 0, &[-9; 5]);
+    expect(tally, name, (number, units.as_slice()), (expected.0, &expected.1[..]));
+}
+
+const E1: &str = "outcome 0 cells 4 total 16 change 4\n0 0 2\n1 7 -2\n2 4 0\n3 5 0\n";
+
+fn fields(tally: &mut Tally) {
+    let one = field(&[4, 4, 5, 5, 6, 6, 6], &[-2, 9, 4, 5], &[0; 4], &[8; 4], (0, 10));
+    check_field(tally, "E1", &one, 16, Ok((0, vec![0, 7, 4, 5], 4)));
+    expect(tally, "E1 listing", listing(&mut FileDesk::default(), &write_field(&one, 16)), E1.to_string());
+    // Sharing over all cells is what the flat tree does.
+    let no_tree = field(&random::flat(4), &[-2, 9, 4, 5], &[0; 4], &[8; 4], (0, 10));
+    check_field(tally, "stray: no tree", &no_tree, 16, Ok((0, vec![0, 8, 4, 4], 4)));
+    let four = field(&[2, 2, 2], &[3, 5], &[3, 5], &[4, 6], (0, 10));
+    check_field(tally, "E4", &four, 4, Ok((1, vec![2, 2], 4)));
+    check_field(tally, "E5", &four, 14, Ok((2, vec![6, 8], 6)));
+    check_field(tally, "E5 at 20", &four, 20, Ok((2, vec![10, 10], 12)));
+    check_field(tally, "E6", &four, 21, Err((8, 0)));
+    check_field(tally, "stray: M is the sum of the lows", &four, 8, Ok((0, vec![3, 5], 0)));
+    check_field(tally, "stray: M is the sum of the highs", &four, 10, Ok((0, vec![4, 6], 2)));
+    check_field(tally, "E7", &field(&[2, 2], &[3, 5], &[3, 5], &[4, 6], (0, 10)), 9, Err((4, 0)));
+    check_field(tally, "E8", &field(&[0], &[3], &[0], &[5], (0, 10)), 7, Ok((2, vec![7], 4)));
+    // Targets -4 and 6 add up to 2 for the node above them; clipped first they would give 6, and masses 4 and 4 for the node and cell 2.
+    let sums = field(&[3, 3, 4, 4, 4], &[-4, 6, 6], &[0; 3], &[8; 3], (0, 10));
+    check_field(tally, "stray: clipping before adding", &sums, 8, Ok((0, vec![0, 2, 6], 8)));
+}
+
+fn splits(tally: &mut Tally) {
+    let ones: [&[i64]; 4] = [&[0; 3], &[0; 3], &[1; 3], &[0; 3]];
+    check_split(tally, "E2", ones, 2, (0, &[0, 1, 1]));
+    check_split(tally, "E2 at 3", ones, 3, (0, &[1, 1, 1]));
+    check_split(tally, "E2 at 4", ones, 4, (8, &[-9; 3]));
+    check_split(tally, "E3", [&[0, 0], &[0, 0], &[10, 3], &[1, 3]], 8, (0, &[5, 3]));
+}
+
+fn imports(tally: &mut Tally) {
+    for (target, unit) in [(2.5, 2), (3.5, 4), (-2.5, -2), (-0.0, 0)] {
+        check_import(tally, "E9", [target, 0.0, 0.0, 0.0, 0.0], (0, [unit, 0, 0, 0, 0]));
+    }
+    check_import(tally, "E10 low", [0.0, -0.25, 0.0, 0.0, 0.0], (0, [0; 5]));
+    check_import(tally, "E10 high", [0.0, 0.0, -0.25, 0.0, 0.0], (11 | 2 << 32, [-9; 5]));
+}
+
+/// The answer file of E1, written and parsed again by the second implementation.
+fn answer_file(tally: &mut Tally) {
+    let one = field(&[4, 4, 5, 5, 6, 6, 6], &[-2, 9, 4, 5], &[0; 4], &[8; 4], (0, 10));
+    let mut buffer = [1; 1024];
+    let length = reconstruct_file(&mut FileDesk::default(), &write_field(&one, 16), &mut buffer);
+    expect(tally, "E1 answer file", length, Ok(1024));
+    expect(tally, "E1 answer parsed", parse_answer(&buffer).map(|(_, masses)| masses), Some(vec![0, 7, 4, 5]));
+    expect(tally, "a returned value", returned(crate::operations::refuse_at(4, 3)), 4 | 3 << 32);
+}
+
+pub fn examples(tally: &mut Tally) {
+    fields(tally);
+    splits(tally);
+    imports(tally);
+    answer_file(tally);
+}

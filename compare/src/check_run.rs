@@ -1,0 +1,115 @@
+//! Years of half-hour steps of one kept field, refused calls among them. After every call the account is checked: the kept masses add up
+//! to the opening total and the sources of the accepted steps, and that is the total returned.
+
+use crate::calls;
+use crate::check_calls::{break_step, compare_step, StepCall};
+use crate::operations::LIMIT;
+use crate::random::{self, Random};
+use crate::tally::Tally;
+use crate::tree::{sum, Desk, Field};
+
+/// Four years, one of them a leap year.
+pub const FOUR_YEARS: u64 = (4 * 365 + 1) * 48;
+
+/// What has been seen in a run.
+#[derive(Default, Debug)]
+pub struct Seen {
+    pub accepted: u64,
+    pub refused: u64,
+    pub outcomes: [u64; 3],
+}
+
+/// A field of the next step: targets near the kept masses, and bounds for which the total wanted has the outcome wanted or nearly so.
+/// They stand around masses that add up to the total, so that the step can be accepted.
+fn next_field(random: &mut Random, kept: &[u32], wanted: u32, outcome: u64) -> Field {
+    let cells = kept.len();
+    let room = ((LIMIT - u64::from(wanted)) / (3 * cells as u64)).min(2000) as u32;
+    let mut field = Field { parents: random::tree(random, cells), ..Field::default() };
+    for (cell, middle) in random::partition(random, wanted, cells).into_iter().enumerate() {
+        let above = |random: &mut Random, from: u32| from + random.below(u64::from(room) + 1) as u32;
+        let below = |random: &mut Random, from: u32| from - random.below(u64::from(from.min(2000)) + 1) as u32;
+        let (low, high) = match outcome {
+            0 => (below(random, middle), above(random, middle)),
+            1 => {
+                let low = above(random, middle);
+                (low, above(random, low))
+            }
+            _ => {
+                let high = below(random, middle);
+                (below(random, high), high)
+            }
+        };
+        field.safe_lows.push(below(random, low.min(middle)));
+        field.safe_highs.push(above(random, high.max(middle)));
+        field.lows.push(low);
+        field.highs.push(high);
+        field.targets.push((i64::from(kept[cell]) + random.between(-3000, 3000)).min(i64::from(i32::MAX)) as i32);
+        field.weights.push(if random.chance(50) { 0 } else { random.below(1000) as u32 });
+    }
+    field
+}
+
+/// The next total: mostly a small source away, now and then anywhere, at 0 or at the limit.
+fn next_total(random: &mut Random, total: u32) -> u32 {
+    let limit = LIMIT as i64;
+    let wanted = match random.below(100) {
+        0 => random.between(0, limit),
+        1 => random.pick(&[0, limit]),
+        2..=4 => random.between(0, 1_000_000),
+        _ => i64::from(total) + random.between(-5000, 5000),
+    };
+    wanted.clamp(0, limit) as u32
+}
+
+/// A call on the kept field that all checks let pass.
+fn good_call(random: &mut Random, kept: &[u32], total: u32) -> StepCall {
+    let wanted = next_total(random, total);
+    let outcome = random.below(3);
+    let field = next_field(random, kept, wanted, outcome);
+    StepCall {
+        total,
+        kept: kept.to_vec(),
+        source: (i64::from(wanted) - i64::from(total)) as i32,
+        scratch: vec![-1; 6 * field.parents.len() + random.index(3)],
+        answer: vec![u64::MAX; 3],
+        field,
+    }
+}
+
+/// Makes steps until `steps` have been accepted.
+pub fn run(tally: &mut Tally, random: &mut Random, cells: usize, steps: u64) -> Seen {
+    let mut kept = random::partition(random, 1_000_000, cells);
+    let mut opened = [0];
+    if calls::open(&kept, &mut opened) != 0 || opened[0] != sum(&kept) {
+        tally.difference(format!("open {kept:?}: {}", opened[0]));
+    }
+    let (mut desk, mut seen) = (Desk::default(), Seen::default());
+    let (mut total, mut sources) = (opened[0] as u32, 0);
+    while seen.accepted < steps {
+        let mut call = good_call(random, &kept, total);
+        let broken = random.chance(25);
+        if broken {
+            break_step(random, &mut call);
+        }
+        // A call that was broken in its total or its kept masses and is accepted nevertheless is none of this run.
+        let belongs = call.total == total && call.kept == kept;
+        let (mine, theirs) = compare_step(tally, &mut desk, &call);
+        if theirs.returned != 0 {
+            seen.refused += 1;
+            if !broken || theirs.kept != call.kept {
+                tally.difference(format!("refused step {call:?}: {theirs:?}"));
+            }
+        } else if belongs && mine == theirs {
+            seen.accepted += 1;
+            seen.outcomes[theirs.answer[0] as usize] += 1;
+            sources += i64::from(call.source);
+            let account = opened[0] as i64 + sources;
+            let kept_sum = sum(&theirs.kept) as i64;
+            if kept_sum != account || theirs.answer[1] as i64 != account {
+                tally.difference(format!("account after {call:?}: {account}, library {theirs:?}"));
+            }
+            (kept, total) = (theirs.kept, theirs.answer[1] as u32);
+        }
+    }
+    seen
+}

@@ -1,0 +1,176 @@
+//! Split, Reconstruct, Open and Step with all that they turn down, after the section "Operations and what each turns down" of 01. Checks
+//! stand in the paper's order. Values go to a lent list as in the calls from C; a list too short for them counts under 3. Written from 01
+//! alone; shares no code with the library.
+
+use crate::split::{share_out, Item};
+use crate::tree::{broken_node, repair, sum, Desk, Lists, Repair};
+
+pub const MAX_CELLS: usize = 512;
+pub const MAX_NODES: usize = 1024;
+pub const LIMIT: u64 = 2147483647;
+
+/// A refusal: its number and its place.
+#[derive(Clone, Copy, Debug, PartialEq)]
+pub struct Refusal {
+    pub number: u32,
+    pub place: u32,
+}
+
+/// A refusal with place 0.
+pub fn refuse<T>(number: u32) -> Result<T, Refusal> {
+    refuse_at(number, 0)
+}
+
+pub fn refuse_at<T>(number: u32, place: usize) -> Result<T, Refusal> {
+    Err(Refusal { number, place: place as u32 })
+}
+
+/// The value that a call from C returns: the number in the low 32 bits, the place in the high 32.
+pub fn returned(result: Result<(), Refusal>) -> u64 {
+    match result {
+        Ok(()) => 0,
+        Err(refusal) => u64::from(refusal.number) | u64::from(refusal.place) << 32,
+    }
+}
+
+/// A sum that no list of 64-bit numbers can overflow.
+fn wide_sum(list: &[i64]) -> i128 {
+    list.iter().map(|&value| i128::from(value)).sum()
+}
+
+pub fn split(targets: &[i64], lows: &[i64], highs: &[i64], weights: &[i64], total: i64, masses: &mut [i64]) -> Result<(), Refusal> {
+    let count = targets.len();
+    if count == 0 || count > MAX_CELLS {
+        return refuse(1);
+    }
+    if [lows.len(), highs.len(), weights.len(), masses.len()] != [count; 4] {
+        return refuse(3);
+    }
+    if let Some(item) = (0..count).find(|&item| lows[item] < 0 || lows[item] > highs[item]) {
+        return refuse_at(5, item);
+    }
+    if wide_sum(highs) > i128::from(LIMIT) {
+        return refuse(6);
+    }
+    if weights.iter().any(|&weight| weight < 0) || wide_sum(weights) > i128::from(LIMIT) {
+        return refuse(7);
+    }
+    if i128::from(total) < wide_sum(lows) || i128::from(total) > wide_sum(highs) {
+        return refuse(8);
+    }
+    let mut items: Vec<Item> =
+        (0..count).map(|item| Item { target: targets[item], low: lows[item], high: highs[item], weight: weights[item], mass: 0 }).collect();
+    share_out(&mut items, total);
+    for (mass, item) in masses.iter_mut().zip(&items) {
+        *mass = item.mass;
+    }
+    Ok(())
+}
+
+/// Checks 1 and 2 of Reconstruct and Step.
+fn check_counts(lists: &Lists) -> Result<(), Refusal> {
+    let (cells, nodes) = (lists.targets.len(), lists.parents.len());
+    if cells == 0 || cells > MAX_CELLS {
+        return refuse(1);
+    }
+    if nodes < cells || nodes > MAX_NODES {
+        return refuse(2);
+    }
+    Ok(())
+}
+
+/// Check 3: `masses` is the length of the list that the masses go to.
+fn check_lengths(lists: &Lists, masses: usize, scratch: usize) -> Result<(), Refusal> {
+    let cells = lists.targets.len();
+    let lengths = [lists.lows.len(), lists.highs.len(), lists.safe_lows.len(), lists.safe_highs.len(), lists.weights.len(), masses];
+    if lengths != [cells; 6] || scratch < 6 * lists.parents.len() {
+        return refuse(3);
+    }
+    Ok(())
+}
+
+/// Checks 4 to 7.
+fn check_field(desk: &mut Desk, lists: &Lists) -> Result<(), Refusal> {
+    let cells = lists.targets.len();
+    if let Some(node) = broken_node(desk, cells, lists.parents) {
+        return refuse_at(4, node);
+    }
+    let crossed = |cell: usize| {
+        let (safe_low, low) = (lists.safe_lows[cell], lists.lows[cell]);
+        let (high, safe_high) = (lists.highs[cell], lists.safe_highs[cell]);
+        !(safe_low <= low && low <= high && high <= safe_high)
+    };
+    if let Some(cell) = (0..cells).find(|&cell| crossed(cell)) {
+        return refuse_at(5, cell);
+    }
+    if sum(lists.safe_highs) > LIMIT {
+        return refuse(6);
+    }
+    if sum(lists.weights) > LIMIT {
+        return refuse(7);
+    }
+    Ok(())
+}
+
+/// Check 8.
+fn check_total(lists: &Lists, total: u32) -> Result<(), Refusal> {
+    if u64::from(total) < sum(lists.safe_lows) || u64::from(total) > sum(lists.safe_highs) {
+        return refuse(8);
+    }
+    Ok(())
+}
+
+pub fn reconstruct(desk: &mut Desk, lists: &Lists, total: u32, masses: &mut [u32], scratch: &mut [i64]) -> Result<Repair, Refusal> {
+    check_counts(lists)?;
+    check_lengths(lists, masses.len(), scratch.len())?;
+    check_field(desk, lists)?;
+    check_total(lists, total)?;
+    let repair = repair(desk, lists, total, masses);
+    scratch[..6 * lists.parents.len()].fill(0);
+    Ok(repair)
+}
+
+pub fn open(kept: &[u32], answer: &mut [u64]) -> Result<(), Refusal> {
+    if answer.is_empty() {
+        return refuse(3);
+    }
+    if kept.is_empty() || kept.len() > MAX_CELLS {
+        return refuse(1);
+    }
+    if sum(kept) > LIMIT {
+        return refuse(13);
+    }
+    answer[0] = sum(kept);
+    Ok(())
+}
+
+pub fn step(
+    desk: &mut Desk,
+    total: u32,
+    kept: &mut [u32],
+    source: i32,
+    lists: &Lists,
+    scratch: &mut [i64],
+    answer: &mut [u64],
+) -> Result<(), Refusal> {
+    check_counts(lists)?;
+    check_lengths(lists, kept.len(), scratch.len())?;
+    if answer.len() < 3 {
+        return refuse(3);
+    }
+    check_field(desk, lists)?;
+    if sum(kept) != u64::from(total) {
+        return refuse(12);
+    }
+    let new_total = i64::from(total) + i64::from(source);
+    if new_total < 0 || new_total > LIMIT as i64 {
+        return refuse(13);
+    }
+    check_total(lists, new_total as u32)?;
+    let repair = repair(desk, lists, new_total as u32, kept);
+    scratch[..6 * lists.parents.len()].fill(0);
+    answer[0] = u64::from(repair.outcome);
+    answer[1] = u64::from(repair.total);
+    answer[2] = repair.change;
+    Ok(())
+}

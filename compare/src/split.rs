@@ -1,0 +1,86 @@
+//! One split of a total among items, after the section "One split" of 01, steps 1 to 5. Written from 01 alone; shares no code with the
+//! library.
+//!
+//! Once an operation's checks have passed, highs and weights each add up to at most 2147483647 and the total lies between the sums of the
+//! lows and the highs. Every product below is then under 2^62, so 64 bits are enough. Targets may be any 64-bit numbers: they are only
+//! compared.
+
+/// An item of a split. `mass` is the result.
+#[derive(Clone, Copy, Default)]
+pub struct Item {
+    pub target: i64,
+    pub low: i64,
+    pub high: i64,
+    pub weight: i64,
+    pub mass: i64,
+}
+
+/// Gives each item its mass.
+pub fn share_out(items: &mut [Item], total: i64) {
+    let difference = total - clip(items);
+    if difference > 0 {
+        let left = by_weights(items, difference, 1);
+        by_capacities(items, left, 1);
+    } else if difference < 0 {
+        let left = by_weights(items, -difference, -1);
+        by_capacities(items, left, -1);
+    }
+}
+
+/// Step 1: every mass is the clipped target. Returns their sum.
+fn clip(items: &mut [Item]) -> i64 {
+    let mut sum = 0;
+    for item in items.iter_mut() {
+        item.mass = if item.target < item.low {
+            item.low
+        } else if item.target > item.high {
+            item.high
+        } else {
+            item.target
+        };
+        sum += item.mass;
+    }
+    sum
+}
+
+/// Step 2: how far the item's mass can still move in the direction of `sign`.
+fn capacity(item: &Item, sign: i64) -> i64 {
+    if sign > 0 {
+        item.high - item.mass
+    } else {
+        item.mass - item.low
+    }
+}
+
+/// Step 3: shares `size` out by weights and returns what is left of it.
+fn by_weights(items: &mut [Item], size: i64, sign: i64) -> i64 {
+    let weights: i64 = items.iter().map(|item| item.weight).sum();
+    if weights == 0 {
+        return size;
+    }
+    let (mut left, mut upto, mut given) = (size, 0, 0);
+    for item in items.iter_mut() {
+        upto += item.weight;
+        let floor = size * upto / weights;
+        let share = capacity(item, sign).min(floor - given);
+        given = floor;
+        item.mass += sign * share;
+        left -= share;
+    }
+    left
+}
+
+/// Step 4: shares `size` out by the capacities that are left.
+fn by_capacities(items: &mut [Item], size: i64, sign: i64) {
+    if size == 0 {
+        return;
+    }
+    let capacities: i64 = items.iter().map(|item| capacity(item, sign)).sum();
+    let (mut upto, mut given) = (0, 0);
+    for item in items.iter_mut() {
+        upto += capacity(item, sign);
+        let floor = size * upto / capacities;
+        item.mass += sign * (floor - given);
+        given = floor;
+    }
+}
