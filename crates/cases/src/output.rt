@@ -2,8 +2,8 @@
 ghost use Prim.Native.Nat.{_<_, _≤_};
 ghost use lib.ListN.{length};
 use libc::STDOUT_FILENO;
-use numbers::inner::above;
 use numbers::inner::is_negative;
+use numbers::inner::magnitude;
 use numbers::inner::stored_index;
 
 // A number of 32 bits as one of 64.
@@ -11,14 +11,6 @@ pub fn wide(x: u32) -> u64
     ensures { λ r. ⌜ r ≤ 4294967295 ⌝ }
 {
     x as u64
-}
-
-// How far a number is from 0.
-pub fn size(x: i64) -> u64 {
-    if x < 0 {
-        return above(-1 - x) + 1;
-    }
-    above(x)
 }
 
 // A sign, if the number is below 0.
@@ -38,7 +30,7 @@ pub fn print_number(x: u64) {
 pub fn print_signed(x: i64) {
     io::write_all(STDOUT_FILENO, b" ");
     print_sign(x);
-    io::print_decimal(STDOUT_FILENO, size(x));
+    io::print_decimal(STDOUT_FILENO, magnitude(x));
 }
 
 // A name, a space and a number.

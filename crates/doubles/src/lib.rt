@@ -1,5 +1,7 @@
 // The operations Import and Export. Public: `import`, `export`; the work below them is in a module of its own, for this crate alone.
 // Relies on `conversion` and `numbers`.
+ghost use mathlib.Core.Path.{_≡_};
+ghost use Rattle.conversion.specs.declared.Imported.the-variants.{Refused};
 ghost use Rattle.conversion.specs.Import.{ImportContract};
 ghost use Rattle.conversion.specs.Export.{ExportContract};
 use conversion::BoundField;
@@ -11,6 +13,17 @@ use conversion::TargetField;
 
 mod fields;
 mod power;
+
+// A field's refusal, with its double as it came.
+fn refused(number: u32, field: u32, double: f64) -> Imported
+    ensures { λ r. ⌜ r ≡ Refused number field double ⌝ }
+{
+    Imported::Refused {
+        number,
+        field,
+        double,
+    }
+}
 
 // A cell's doubles in whole units at a scale.
 pub fn import(cell: CellDoubles, scale: u32) -> Imported
@@ -31,35 +44,15 @@ pub fn import(cell: CellDoubles, scale: u32) -> Imported
                             safe_low,
                             safe_high,
                         }),
-                        BoundField::Bad(number) => Imported::Refused {
-                            number,
-                            field: 4,
-                            double: cell.safe_high,
-                        },
+                        BoundField::Bad(number) => refused(number, 4, cell.safe_high),
                     },
-                    BoundField::Bad(number) => Imported::Refused {
-                        number,
-                        field: 3,
-                        double: cell.safe_low,
-                    },
+                    BoundField::Bad(number) => refused(number, 3, cell.safe_low),
                 },
-                BoundField::Bad(number) => Imported::Refused {
-                    number,
-                    field: 2,
-                    double: cell.high,
-                },
+                BoundField::Bad(number) => refused(number, 2, cell.high),
             },
-            BoundField::Bad(number) => Imported::Refused {
-                number,
-                field: 1,
-                double: cell.low,
-            },
+            BoundField::Bad(number) => refused(number, 1, cell.low),
         },
-        TargetField::Bad(number) => Imported::Refused {
-            number,
-            field: 0,
-            double: cell.target,
-        },
+        TargetField::Bad(number) => refused(number, 0, cell.target),
     }
 }
 

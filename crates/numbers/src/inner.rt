@@ -79,11 +79,10 @@ pub fn difference(a: u64, b: u64) -> i64
     signed(a) - signed(b)
 }
 
-pub fn magnitude(d: i64) -> u64
-    requires { ⌜ natAbs d < 2 ^ 63 ⌝ }
-    ensures { λ r. ⌜ r ≡ natAbs d ⌝ }
+pub fn magnitude(z: i64) -> u64
+    ensures { λ r. ⌜ r ≡ natAbs z ⌝ }
 {
-    if d < 0 { (0 - d) as u64 } else { d as u64 }
+    if z < 0 { (-1 - z) as u64 + 1 } else { z as u64 }
 }
 
 // The rounded quotient, 0 where there is nothing to divide by. The bounds leave room for any rounding that doubles its operands.

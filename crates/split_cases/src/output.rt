@@ -5,9 +5,9 @@ use cases::output::end_line;
 use cases::output::print_named;
 use cases::output::print_refusal;
 use cases::output::print_signed;
-use cases::output::size;
 use libc::STDOUT_FILENO;
 use numbers::inner::is_negative;
+use numbers::inner::magnitude;
 use numbers::inner::sum_above;
 
 // Each number of a list.
@@ -23,7 +23,7 @@ fn print_masses(xs: &[i64]) {
 fn residue(x: i64) -> u64
     ensures { λ r. ⌜ r < 1000000007 ⌝ }
 {
-    let left = size(x) % 1000000007;
+    let left = magnitude(x) % 1000000007;
     if is_negative(x) {
         return (1000000007 - left) % 1000000007;
     }

@@ -1,9 +1,9 @@
 // Each function puts one piece of text at `at` and returns the place after it.
 ghost use mathlib.Core.Path.{_≡_};
 ghost use Prim.Native.Nat.{_+_, _≤_, _<_, _^_};
-ghost use lib.IntN.{natAbs};
 ghost use lib.ListN.{length};
 ghost use Rattle.text.specs.Text.{Put, digitsOf, number, signedNumber, named};
+use numbers::inner::magnitude;
 
 // Puts the bytes of a word.
 pub fn put_bytes(out: &mut [u8], at: usize, word: &[u8]) -> usize
@@ -38,19 +38,12 @@ pub fn put_number(out: &mut [u8], at: usize, x: u64, after: u8) -> usize
     end + 1
 }
 
-// The size of a signed number.
-fn size(z: i64) -> u64
-    ensures { λ r. ⌜ r ≡ natAbs z ⌝ }
-{
-    if z < 0 { (-1 - z) as u64 + 1 } else { z as u64 }
-}
-
 // Puts a signed number, and the byte `after`.
 pub fn put_signed(out: &mut [u8], at: usize, z: i64, after: u8) -> usize
     requires { ⌜ at + 22 ≤ length (now out) ⌝ }
     ensures { λ r. ⌜ Put (now (out .entry)) (now (out .exit)) at r (signedNumber z after) × (r ≤ at + 22) ⌝ }
 {
-    let k = size(z);
+    let k = magnitude(z);
     if z < 0 {
         out[at] = 45;
         return put_number(out, at + 1, k, after);

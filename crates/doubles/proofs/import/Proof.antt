@@ -94,6 +94,21 @@ enum-known-number-4 c = search needs
 enum-known-number-5 : tie.Need-enum-known-number-5
 enum-known-number-5 c = search needs
 
+refused-requires : tie.Need-refused-requires
+refused-requires c κs = search needs
+
+refused-requires-2 : tie.Need-refused-requires-2
+refused-requires-2 c κs = search needs
+
+refused-requires-3 : tie.Need-refused-requires-3
+refused-requires-3 c κs = search needs
+
+refused-requires-4 : tie.Need-refused-requires-4
+refused-requires-4 c κs = search needs
+
+refused-requires-5 : tie.Need-refused-requires-5
+refused-requires-5 c κs = search needs
+
 returns-2 : tie.Need-returns-2
 returns-2 c =
     let d = c .before .before .before .before in
@@ -104,39 +119,44 @@ returns-2 c =
     meets (z .scale) (z .cell) (at-scale (z .scale) (z .cell) (omega arith) ∙ all-in (z .scale) (z .cell) (toZ-ofZ w32 (k2 .before .target .given .0 .0) (record { sfits = k2 .known-told .given .0 .1 })) (g1 k2) (g2 k3) (g3 k4) (g4 d) (sym (c .before .before .before .high-field2 .ensures) ∙ c .before .safe-high .given .1))
 
 returns-3 : tie.Need-returns-3
-returns-3 c =
+returns-3 e =
+    let c = e .before in
     let d = c .before .before .before .before in
     let z = s4 d .args in
     let k4 = d .before .before .before .before in
     let k3 = k4 .before .before .before .before in
     let k2 = k3 .before .before .before .before in
-    meets (z .scale) (z .cell) (at-scale (z .scale) (z .cell) (omega (arith, k2 .before .before .before .before .if1 .left)) ∙ bad-safe-high (z .scale) (z .cell) (g1 k2) (g2 k3) (g3 k4) (g4 d) (sym (c .before .before .before .high-field2 .ensures) ∙ c .before .number .given .1))
+    meets (z .scale) (z .cell) (at-scale (z .scale) (z .cell) (omega (arith, k2 .before .before .before .before .if1 .left)) ∙ bad-safe-high (z .scale) (z .cell) (g1 k2) (g2 k3) (g3 k4) (g4 d) (sym (c .before .before .before .high-field2 .ensures) ∙ c .before .number .given .1) ∙ sym (e .refused .ensures))
 
 returns-4 : tie.Need-returns-4
-returns-4 c =
+returns-4 e =
+    let c = e .before in
     let d = c .before .before .before .before in
     let z = s3 d .args in
     let k3 = d .before .before .before .before in
     let k2 = k3 .before .before .before .before in
-    meets (z .scale) (z .cell) (at-scale (z .scale) (z .cell) (omega (arith, k2 .before .before .before .before .if1 .left)) ∙ bad-safe-low (z .scale) (z .cell) (g1 k2) (g2 k3) (g3 d) (sym (c .before .before .before .low-field2 .ensures) ∙ c .before .number2 .given .1))
+    meets (z .scale) (z .cell) (at-scale (z .scale) (z .cell) (omega (arith, k2 .before .before .before .before .if1 .left)) ∙ bad-safe-low (z .scale) (z .cell) (g1 k2) (g2 k3) (g3 d) (sym (c .before .before .before .low-field2 .ensures) ∙ c .before .number2 .given .1) ∙ sym (e .refused2 .ensures))
 
 returns-5 : tie.Need-returns-5
-returns-5 c =
+returns-5 e =
+    let c = e .before in
     let d = c .before .before .before .before in
     let z = s2 d .args in
     let k2 = d .before .before .before .before in
-    meets (z .scale) (z .cell) (at-scale (z .scale) (z .cell) (omega (arith, k2 .before .before .before .before .if1 .left)) ∙ bad-high (z .scale) (z .cell) (g1 k2) (g2 d) (sym (c .before .before .before .high-field .ensures) ∙ c .before .number3 .given .1))
+    meets (z .scale) (z .cell) (at-scale (z .scale) (z .cell) (omega (arith, k2 .before .before .before .before .if1 .left)) ∙ bad-high (z .scale) (z .cell) (g1 k2) (g2 d) (sym (c .before .before .before .high-field .ensures) ∙ c .before .number3 .given .1) ∙ sym (e .refused3 .ensures))
 
 returns-6 : tie.Need-returns-6
-returns-6 c =
+returns-6 e =
+    let c = e .before in
     let d = c .before .before .before .before in
     let z = s1 d .args in
-    meets (z .scale) (z .cell) (at-scale (z .scale) (z .cell) (omega (arith, d .before .before .before .before .if1 .left)) ∙ bad-low (z .scale) (z .cell) (g1 d) (sym (c .before .before .before .low-field .ensures) ∙ c .before .number4 .given .1))
+    meets (z .scale) (z .cell) (at-scale (z .scale) (z .cell) (omega (arith, d .before .before .before .before .if1 .left)) ∙ bad-low (z .scale) (z .cell) (g1 d) (sym (c .before .before .before .low-field .ensures) ∙ c .before .number4 .given .1) ∙ sym (e .refused4 .ensures))
 
 returns-7 : tie.Need-returns-7
-returns-7 c =
+returns-7 e =
+    let c = e .before in
     let z = c .before .before .before .before .before .args in
-    meets (z .scale) (z .cell) (at-scale (z .scale) (z .cell) (omega (arith, c .before .before .before .before .if1 .left)) ∙ bad-target (z .scale) (z .cell) (sym (c .before .before .before .target-field .ensures) ∙ c .before .number5 .given .1))
+    meets (z .scale) (z .cell) (at-scale (z .scale) (z .cell) (omega (arith, c .before .before .before .before .if1 .left)) ∙ bad-target (z .scale) (z .cell) (sym (c .before .before .before .target-field .ensures) ∙ c .before .number5 .given .1) ∙ sym (e .refused5 .ensures))
 
 pub import-spec : {M : Type 1} → statement M
 import-spec =
@@ -154,10 +174,15 @@ import-spec =
     high-field-requires-2
     enum-known-safe-high
     enum-known-number
+    refused-requires
     enum-known-number-2
+    refused-requires-2
     enum-known-number-3
+    refused-requires-3
     enum-known-number-4
+    refused-requires-4
     enum-known-number-5
+    refused-requires-5
     returns-2
     returns-3
     returns-4

@@ -39,7 +39,7 @@ sub-d : tie.Need-sub-d
 sub-d c = subst (SFits w64) (sym (d-is c)) (d-fits c)
 
 magnitude-requires : tie.Need-magnitude-requires
-magnitude-requires c κs = subst (λ z. natAbs z < 2 ^ 63) (sym (d-back c)) (omega (arith, d-size c))
+magnitude-requires c κs = search needs
 
 returns : tie.Need-returns
 returns c = let e = c .magnitude .ensures ∙ ap natAbs (d-back (c .before)) in (e, omega (arith, e, d-size (c .before)))

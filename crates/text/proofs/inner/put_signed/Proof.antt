@@ -7,8 +7,8 @@ use borrow.Author.Needs.{needs}
 use Rattle.text.proofs.inner.put_signed.Statement.{statement}
 use Rattle.text.proofs.inner.put_signed.Tie as tie
 
-size-requires : tie.Need-size-requires
-size-requires c κs = search needs
+magnitude-requires : tie.Need-magnitude-requires
+magnitude-requires c κs = search needs
 
 slice-write-out : tie.Need-slice-write-out
 slice-write-out c = search needs
@@ -26,7 +26,7 @@ returns : tie.Need-returns
 returns c =
     let s = c .before .before .before .before .before .before .before in
     let a = s .args in
-    let n = c .before .before .before .before .before .size in
+    let n = c .before .before .before .before .before .magnitude in
     let p = then (omega (arith, s .pre)) (byte (a .out .now) (a .at) 45 (omega (arith, s .pre))) (c .before .before .put-number .ensures .0) in
     (rw (← below-zero (a .z) (n .result) (a .after) (s .fits .z) (c .before .before .before .before .if1 .taken) (n .ensures)) p, omega arith)
 
@@ -40,14 +40,14 @@ returns-2 : tie.Need-returns-2
 returns-2 c =
     let s = c .before .before .before .before .before .before .before in
     let a = s .args in
-    let n = c .before .before .before .before .before .size in
+    let n = c .before .before .before .before .before .magnitude in
     (rw (← from-zero (a .z) (n .result) (a .after) (s .fits .z) (c .before .before .before .before .if1 .left) (n .ensures)) (c .before .before .put-number2 .ensures .0), omega arith)
 
 pub put-signed-spec : {M : Type 1} → statement M
 put-signed-spec =
     tie.close
     (tie.spec
-    size-requires
+    magnitude-requires
     slice-write-out
     add-put-number
     put-number-requires

@@ -52,7 +52,7 @@ is-negative-requires : tie.Need-is-negative-requires
 is-negative-requires c κs = search needs
 
 magnitude-requires : tie.Need-magnitude-requires
-magnitude-requires c κs = rw (d-is (c .before)) (omega (arith, deficit-small (c .before .before .before .before .before .before .before .pre)))
+magnitude-requires c κs = search needs
 
 share-walk-requires : tie.Need-share-walk-requires
 share-walk-requires c κs =
