@@ -10,7 +10,8 @@ program=$target/bin/legzhuro
 sum=$(cksum <"$library/liblegzhuro_c.a" | tr ' ' '-')
 RUSTFLAGS="-L native=$library -C metadata=$sum"
 CARGO_TARGET_DIR=$target/compare
-export RUSTFLAGS CARGO_TARGET_DIR
+PATH=$PATH:${CARGO_HOME:-${HOME:-}/.cargo}/bin # where Rust's installer puts cargo
+export RUSTFLAGS CARGO_TARGET_DIR PATH
 cargo build --release --offline --quiet
 if [ "${1:-}" = benchmark ]; then
     exec "$CARGO_TARGET_DIR/release/benchmark"
