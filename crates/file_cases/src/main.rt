@@ -1,4 +1,4 @@
-// A test program: runs Read a field file and Write an answer on cases from standard input, and prints a line for each. The file `stdin`
+// A test program: runs Read a field file, Write an answer and Payload on cases from standard input, and prints a line for each. The file `stdin`
 // has the cases, and data/ the field files, sound and damaged; `stdout` was written by an implementation of 01's own words in another
 // language, and not by this program.
 // The input is whole numbers with spaces and line ends between them. A case starts with its kind. 1 is Read a field file: then come the
@@ -7,12 +7,13 @@
 // that is missing is told in a line, and taken as empty. 2 is Write an answer: then come the cells, the outcome, the total, the change,
 // the length of the list of masses (above 600 is taken as 600), that of the buffer (above 4,096 is taken as 4,096), and three numbers
 // that give the masses, first, step and modulus: mass 0 is first mod modulus, and each later one is the sum of the mass before it and
-// step, mod modulus. A modulus of 0 is taken as 1, and one above 4294967296 as that. Before the call each byte of the buffer is 9. Any
-// other kind is a case by itself. Outcomes, totals and steps above 4294967295 are taken as 4294967295.
+// step, mod modulus. A modulus of 0 is taken as 1, and one above 4294967296 as that. Before the call each byte of the buffer is 9. 3 is
+// Payload: then come the number of a file and that of a block. Any other kind is a case by itself. Outcomes, totals and steps above 4294967295 are taken as 4294967295.
 // A line has `read` with n, m and M, `bytes` and the file's length, or `refused` with number and place. Then comes, for each lent list
-// that may be written, in the order above, a check number of all its entries, with those past the field or the file. The cases end with
+// that may be written, in the order above, a check number of all its entries, with those past the field or the file. Of a payload it has
+// `payload`, its length and its check number. The cases end with
 // the input, of which at most 65,536 bytes are read.
-// Relies on `field_file` and `answer_file`, which it tests, `formats` for the answers, `qlt`, `cases`, `numbers`, and the kit's `io`,
+// Relies on `field_file`, `answer_file` and `blocks`, which it tests, `formats` for the answers, `qlt`, `cases`, `numbers`, and the kit's `io`,
 // `os` and `libc`.
 ghost use Prim.Native.Nat.{_≤_};
 ghost use lib.ListN.{length};
@@ -24,6 +25,7 @@ use cases::output::end_line;
 use cases::output::show_no_kind;
 use input::ReadCase;
 use input::WriteCase;
+use numbers::inner::index;
 
 mod input;
 mod output;
@@ -188,6 +190,20 @@ fn run_write(text: &[u8], at: usize) -> usize
     case.next
 }
 
+// The same for Payload.
+fn run_payload(text: &[u8], at: usize) -> usize
+    requires { ⌜ at ≤ length (now text) ⌝ }
+    ensures { λ r. ⌜ r ≤ length (now (text .entry)) ⌝ }
+{
+    let number = read_unsigned(text, at);
+    let block = read_unsigned(text, number.next);
+    let mut space = [0u8; 20000];
+    let n = load(number.value, &mut space);
+    output::print_payload(blocks::payload(&space[..n], index(block.value)));
+    end_line();
+    block.next
+}
+
 // Runs the case that starts at `at`. Returns where the next may start.
 fn run_case(text: &[u8], at: usize) -> usize
     requires { ⌜ at ≤ length (now text) ⌝ }
@@ -198,6 +214,9 @@ fn run_case(text: &[u8], at: usize) -> usize
     }
     if kind.value == 2 {
         return skip(text, run_write(text, kind.next));
+    }
+    if kind.value == 3 {
+        return skip(text, run_payload(text, kind.next));
     }
     show_no_kind();
     skip(text, kind.next)

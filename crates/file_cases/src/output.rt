@@ -111,6 +111,12 @@ pub fn print_written(answer: AnswerWritten) {
     }
 }
 
+// The length and the check number of a payload.
+pub fn print_payload(part: &[u8]) {
+    print_named(b"payload", stored_index(part.len()));
+    print_bytes(part);
+}
+
 // A line that says that a file is missing.
 pub fn show_no_file() {
     io::write_all(STDOUT_FILENO, b"no such file\n");

@@ -2,10 +2,10 @@
 // 13952.
 ghost use mathlib.Core.Path.{_≡_};
 ghost use Prim.Native.Nat.{_+_, _*_, _≤_, _<_};
-ghost use lib.IntN.{pos, _-ℤ_};
 ghost use lib.ListN.{length};
 ghost use Rattle.text.specs.Text.{Put};
 ghost use Rattle.listing.specs.Listing.{headLine, cellLine, cellLines, listing, refusalLine};
+use numbers::inner::minus;
 use qlt::Repair;
 use text::inner::put_named;
 use text::inner::put_number;
@@ -20,14 +20,6 @@ fn put_head(out: &mut [u8], cells: usize, repair: Repair) -> usize
     let b = put_named(out, a, b"cells ", cells as u64, b' ');
     let c = put_named(out, b, b"total ", repair.total as u64, b' ');
     put_named(out, c, b"change ", repair.change, b'\n')
-}
-
-fn minus(mass: u32, target: i32) -> i64
-    ensures { λ r. ⌜ r ≡ pos mass -ℤ target ⌝ }
-{
-    let m = mass as i64;
-    let t = target as i64;
-    m - t
 }
 
 // A cell's line.

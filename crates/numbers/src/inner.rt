@@ -85,6 +85,15 @@ pub fn magnitude(z: i64) -> u64
     if z < 0 { (-1 - z) as u64 + 1 } else { z as u64 }
 }
 
+// A mass minus a target: a cell's correction.
+pub fn minus(mass: u32, target: i32) -> i64
+    ensures { λ r. ⌜ r ≡ pos mass -ℤ target ⌝ }
+{
+    let m = mass as i64;
+    let t = target as i64;
+    m - t
+}
+
 // The rounded quotient, 0 where there is nothing to divide by. The bounds leave room for any rounding that doubles its operands.
 pub fn quotient(a: u64, b: u64) -> u64
     requires { ⌜ (a < 2 ^ 62) × (b < 2 ^ 31) ⌝ }

@@ -13,13 +13,13 @@ use lib.IntN.{ℤ, pos, natAbs, _+ℤ_, _-ℤ_}
 use lib.Signed.{mag}
 use lib.ListN.{length, set, drop, length-drop}
 use lib.Seq.{getD-drop, ext-getD}
-use mir.Syntax.{w32, w64}
+use mir.Syntax.{w64}
 use mir.Val.{SFits, toZ, ofZ}
-use mir.ValLaws.{toZ-ofZ, toZ-pos}
+use mir.ValLaws.{toZ-ofZ}
 use borrow.Author.Tests.{lt-leb, le-leb}
 use Rattle.numbers.specs.Sums.{ℕ-adds, ℤ-adds, sumTo}
 use Rattle.numbers.specs.Lists.{atℤ, listTo, written}
-use Rattle.numbers.proofs.SignedLaws.{about, minus-parts, widened}
+use Rattle.numbers.proofs.SignedLaws.{about, minus-parts}
 use Rattle.numbers.proofs.SumLaws.{sumTo-next, sumTo-ext}
 use Rattle.numbers.proofs.ListLaws.{length-listTo, written-none, length-written, written-next}
 use Rattle.columns.specs.Columns.{width, MASS, col, InRow, Stored, Kept, Laid}
@@ -183,11 +183,7 @@ cleared-ext k a b e h =
 
 -- ---- how far a mass is from its target
 
--- the difference as the machine has it, from the bits of both
-pub off-read : (a : ℕ) (t : ℤ) → a < 2 ^ 32 → mag t < 2 ^ 31 → toZ w64 a -ℤ toZ w64 (ofZ w64 (toZ w32 (ofZ w32 t))) ≡ pos a -ℤ t
-off-read a t h g = ap₂ _-ℤ_ (toZ-pos w64 a (omega arith)) (widened t g)
-
--- its size
+-- the size of the difference
 pub off-size : (a : ℕ) (t : ℤ) → a < 2 ^ 32 → mag t < 2 ^ 31 → natAbs (pos a -ℤ t) < 2 ^ 33
 off-size a t h g = omega (arith, minus-parts (pos a) t, about (pos a -ℤ t), about t)
 

@@ -2,16 +2,15 @@
 -- repairing it told, and the contract by the length of the lent list. Assumes nothing.
 use mathlib.Core.Path.{_≡_, refl, sym, _∙_, ap}
 use mathlib.Core.List.{List}
-use Prim.Native.Nat.{ℕ, _+_, _-_, _≤_, _<_}
+use Prim.Native.Nat.{ℕ, _-_, _≤_, _<_}
 use native.Mathlib.Nat.{zero-add, sub-zero}
 use native.Mathlib.Omega.{arith}
 use lib.IntN.{ℤ}
 use lib.ListN.{length, take}
 use lib.Seq.{length-take-le}
 use borrow.Author.Tests.{le-leb, lt-leb}
-use Rattle.numbers.specs.declared.Checked.the-variants.{Pass, Fail}
-use Rattle.numbers.specs.Lists.{written}
-use Rattle.numbers.specs.Checks.{accepted, answered, after, checkLong, Decides}
+use Rattle.numbers.specs.declared.Checked.the-variants.{Fail}
+use Rattle.numbers.specs.Checks.{accepted, checkLong, Decides}
 use Rattle.numbers.proofs.TestLaws.{le-means}
 use Rattle.numbers.proofs.CheckLaws.{decides-unless}
 use Rattle.qlt.specs.declared.Repair.{Repair}

@@ -15,6 +15,7 @@ ghost use Rattle.qlt.specs.Tree.{Valid};
 ghost use Rattle.qlt.specs.Operation.{cleared};
 ghost use Rattle.passes.specs.Gather.{Gathering, Loaded, Targets};
 use numbers::inner::magnitude;
+use numbers::inner::minus;
 use walks::inner::MASS;
 use walks::inner::get;
 use walks::inner::get_signed;
@@ -174,8 +175,7 @@ pub fn clear(s: &mut [i64], k: usize)
 fn off(mass: u32, target: i32) -> u64
     ensures { λ r. ⌜ (r ≡ natAbs (pos mass -ℤ target)) × (r < 2 ^ 33) ⌝ }
 {
-    let d = mass as i64 - target as i64;
-    magnitude(d)
+    magnitude(minus(mass, target))
 }
 
 // The sum of that over all cells.

@@ -1,5 +1,5 @@
 -- `blocks::payload` meets its contract: the file has a block exactly past both tests, and the part cut is its payload.
-use mathlib.Core.Path.{_≡_, refl}
+use mathlib.Core.Path.{refl}
 use native.Mathlib.Omega.{arith}
 use Rattle.blocks.proofs.BlockLaws.{hasBlock-zero, hasBlock-past, payload-none, payload-part}
 use borrow.Author.Needs.{needs}

@@ -1,7 +1,7 @@
 -- `kept::verdicts::total_checks` meets its contract: 12, 13, then 8 of a total that is within its range.
 use mathlib.Core.Path.{_≡_, sym, _∙_, ap}
 use native.Mathlib.Omega.{arith}
-use lib.IntN.{ℤ, pos, _+ℤ_}
+use lib.IntN.{pos, _+ℤ_}
 use mir.Syntax.{w64}
 use mir.Val.{toZ, ofZ}
 use Rattle.numbers.specs.declared.Checked.the-variants.{Pass}

@@ -1,8 +1,6 @@
 -- `repair_file::inner::repair_file` meets its contract: a file that reading refuses is refused with the same number and place, and the fronts
 -- of the lists that were read are the file's field.
 use mathlib.Core.Path.{_∙_}
-use mathlib.Core.List.{List}
-use Prim.Native.Nat.{ℕ}
 use native.Mathlib.Omega.{arith}
 use Rattle.qlt.specs.Field.{Lists, lists}
 use Rattle.formats.proofs.ReadLaws.{read-done}

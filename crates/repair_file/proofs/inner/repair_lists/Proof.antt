@@ -1,6 +1,5 @@
 -- `repair_file::inner::repair_lists` meets its contract: the parts that it lends are the fronts of the lists, and the masses are put back
 -- before the rest of theirs.
-use mathlib.Core.Path.{_≡_, ap}
 use native.Mathlib.Nat.{sub-zero}
 use native.Mathlib.Omega.{arith}
 use Rattle.repair_file.proofs.FileLaws.{fronts-repaired}

@@ -1,5 +1,5 @@
 -- `repair_file::inner::with_cells` meets its contract: each answer keeps what it tells, and an accepted one has the number of cells beside it.
-use mathlib.Core.Path.{_≡_, sym, ap}
+use mathlib.Core.Path.{sym, ap}
 use Rattle.qlt.specs.Operation.{tells}
 use Rattle.repair_file.specs.RepairFile.{fileTells, beside}
 use borrow.Author.Needs.{needs}

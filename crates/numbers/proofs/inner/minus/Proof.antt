@@ -1,4 +1,4 @@
--- `listing::inner::minus` meets its contract: both numbers widen to 64 bits unchanged, and there their difference fits.
+-- `numbers::inner::minus` meets its contract: both numbers widen to 64 bits unchanged, and there their difference fits.
 use mathlib.Core.Path.{_≡_, ap₂}
 use Prim.Native.Nat.{ℕ}
 use native.Mathlib.Omega.{arith}
@@ -6,10 +6,10 @@ use lib.IntN.{ℤ, pos, _-ℤ_}
 use mir.Syntax.{w32, w64}
 use mir.Val.{SFits, toZ, ofZ}
 use mir.ValLaws.{toZ-ofZ, toZ-pos}
 use Rattle.numbers.proofs.SignedLaws.{signed, about, one-part, minus-parts, widened}
 use borrow.Author.Needs.{needs}
-use Rattle.listing.proofs.inner.minus.Statement.{statement}
-use Rattle.listing.proofs.inner.minus.Tie as tie
+use Rattle.numbers.proofs.inner.minus.Statement.{statement}
+use Rattle.numbers.proofs.inner.minus.Tie as tie
 
 -- what is computed, as a difference of the arguments; it fits
 module _ (c : tie.Start) where
