@@ -1,19 +1,19 @@
 -- Runs of Step calls after an opening ('Kept field' of 01), and the account of a run: the conclusion of demand 3. Assumes nothing.
 use mathlib.Core.Path.{_≡_}
 use mathlib.Core.Logic.{_⊎_, _↔_}
-use mathlib.Core.List.{List}
+use mathlib.Core.List.{List, _++_}
 use Prim.Native.Nat.{ℕ}
 use lib.IntN.{ℤ, pos, _+ℤ_}
-use Rattle.numbers.specs.Checks.{Answered, accepted, refused}
+use Rattle.numbers.specs.Checks.{Answered, accepted, refused, Broken}
 use Rattle.qlt.specs.declared.Repair.{Repair}
 use Rattle.qlt.specs.Field.{field, Meets}
 use Rattle.qlt.specs.Masses.{treeMasses}
 use Rattle.qlt.specs.Facts.{FieldFacts}
-use Rattle.qlt.specs.Checks.{sum}
+use Rattle.numbers.specs.Lists.{sum, All}
 use Rattle.qlt.specs.Operation.{repair}
 use Rattle.account.specs.declared.Stepped.{Stepped}
-use Rattle.account.specs.Step.{StepCall, next, stepTells, StepContract}
-use Rattle.account.specs.Run.{All, sumOf}
+use Rattle.account.specs.Step.{StepCall, next, stepRules, StepFits, stepTells, StepContract}
+use Rattle.account.specs.Run.{sumOf}
 
 -- a Step call with what it gave and left
 pub record Event : Type 0 where
@@ -64,11 +64,12 @@ gain e = gainBy (told e) (e .call .source)
 abbrev pub Promised : Event → Type 0
 Promised e = StepContract (e .call) (e .answer) (e .kept) (e .scratch)
 
--- a call is lent the kept masses, and the balance standing if it is accepted, and leaves in their list what it leaves; or it is lent other
--- lists and is refused. Nobody else writes the kept masses.
+-- a call is lent a part of the kept masses, any part or the whole, and leaves in its place what it leaves; if it is accepted, it was lent the
+-- whole with the balance standing. Or it is lent other lists and is refused. Nobody else writes the kept masses.
 pub data Moves : Standing → Event → Standing → Type 0 where
-  lent : {s : Standing} {e : Event} → Promised e → e .call .kept ≡ s .kept → (Accepts (told e) → balanceOf (e .call) ≡ s .balance)
-      → Moves s e (record { kept = e .kept; balance = balanceAfter (told e) (s .balance) })
+  lent : {s : Standing} {e : Event} (before rest : List ℕ) → Promised e → s .kept ≡ before ++ (e .call .kept ++ rest)
+      → (Accepts (told e) → (e .call .kept ≡ s .kept) × (balanceOf (e .call) ≡ s .balance))
+      → Moves s e (record { kept = before ++ (e .kept ++ rest); balance = balanceAfter (told e) (s .balance) })
   elsewhere : {s : Standing} {e : Event} → Promised e → (Accepts (told e) → ⊥) → Moves s e s
 
 -- ---- the account
@@ -91,7 +92,11 @@ pub record AcceptedFacts (c : StepCall) (r : Repair) (kept : List ℕ) : Type 0 
 
 -- the facts of one call
 pub record StepFacts (e : Event) : Type 0 where
-  pub accepts : (r : Repair) → told e ≡ accepted r → AcceptedFacts (e .call) r (e .kept)
+  -- 'accepted if it returns no refusal, as it does exactly when every check told for it passes'; a refusal's number and place are those of
+  -- the rule that is broken, those before it holding
+  pub accepts : Accepts (told e) ↔ StepFits (e .call)
+  pub refuses : (number place : ℕ) → (told e ≡ refused number place) ↔ Broken (stepRules (e .call)) number place
+  pub gives : (r : Repair) → told e ≡ accepted r → AcceptedFacts (e .call) r (e .kept)
   -- 'a step accepted or refused for its new total was accepted exactly when some masses within its safety bounds reach it'
   pub decided : Accepts (told e) ⊎ ForTotal (told e) → Accepts (told e) ↔ Reachable (e .call)
 

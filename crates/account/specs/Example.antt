@@ -1,7 +1,9 @@
--- A concrete run, so that runs are not empty talk: two cells opened with 3 and 5, an accepted step with source 2, a refused one, and an
--- accepted one with source −4. Assumes nothing.
-use mathlib.Core.List.{[], _∷_}
-use lib.IntN.{pos, negsuc}
+-- A concrete run, so that runs are not empty talk: two cells opened with 3 and 5, an accepted step with source 2; refused ones, for its new
+-- total, for another total than the one standing, lent a part of the kept masses, and lent other lists; and an accepted one with source −4.
+-- Assumes nothing.
+use mathlib.Core.List.{List, [], _∷_}
+use Prim.Native.Nat.{ℕ}
+use lib.IntN.{ℤ, pos, negsuc}
 use lib.ListN.{replicate}
 use Rattle.qlt.specs.Field.{Lists, lists}
 use Rattle.account.specs.declared.Stepped.the-variants.{Accepted, Refused}
@@ -25,25 +27,44 @@ first =
       scratch = replicate 18 (pos 0);
     }
 
--- 10 + 11 is out of reach
-abbrev pub second : Event
-second =
+-- a refused call leaves the masses and the scratch that it was lent
+abbrev refusal : ℕ → List ℕ → ℤ → ℕ → Event
+refusal total kept source number =
     record {
-      call = stepCall 10 (4 ∷ 6 ∷ []) (pos 11) two (replicate 18 (pos 1));
-      answer = Refused 8 0;
-      kept = 4 ∷ 6 ∷ [];
+      call = stepCall total kept source two (replicate 18 (pos 1));
+      answer = Refused number 0;
+      kept = kept;
       scratch = replicate 18 (pos 1);
     }
 
--- 10 − 4
+-- 10 + 11 is out of reach
+abbrev pub second : Event
+second = refusal 10 (4 ∷ 6 ∷ []) (pos 11) 8
+
+-- the kept masses with another total than the one standing
 abbrev pub third : Event
-third =
+third = refusal 9 (4 ∷ 6 ∷ []) (pos 1) 12
+
+-- a part of the kept masses: the second alone
+abbrev pub fourth : Event
+fourth = refusal 10 (6 ∷ []) (pos 1) 3
+
+-- other lists altogether
+abbrev pub fifth : Event
+fifth = refusal 7 (7 ∷ 7 ∷ 7 ∷ []) (pos 1) 3
+
+-- 10 − 4
+abbrev pub sixth : Event
+sixth =
     record {
       call = stepCall 10 (4 ∷ 6 ∷ []) (negsuc 3) two (replicate 18 (pos 1));
       answer = Accepted (record { outcome = 0; total = 6; change = 2 });
       kept = 3 ∷ 3 ∷ [];
       scratch = replicate 18 (pos 0);
     }
+
+abbrev pub events : List Event
+events = first ∷ second ∷ third ∷ fourth ∷ fifth ∷ sixth ∷ []
 
 abbrev pub last : Standing
 last = record { kept = 3 ∷ 3 ∷ []; balance = record { total = 6 } }

@@ -8,7 +8,7 @@ use lib.Signed.{leZ, _≤ℤ_}
 use lib.ListN.{length}
 use Rattle.numbers.specs.declared.Checked.{Checked}
 use Rattle.numbers.specs.Checks.{Answered, accepted, refused, answered, unless, first, checkCount, Rule, rule, maxTotal}
-use Rattle.qlt.specs.Checks.{sum}
+use Rattle.numbers.specs.Lists.{sum}
 use Rattle.account.specs.declared.Opened.{Opened}
 use Rattle.account.specs.declared.Opened.the-variants.{Total, Refused}
 
@@ -19,8 +19,12 @@ checkTotal z = unless (leZ (pos 0) z && leZ z (pos maxTotal)) 13 0
 abbrev pub totalRule : ℤ → Rule
 totalRule z = rule 13 ((pos 0 ≤ℤ z) × (z ≤ℤ pos maxTotal))
 
+-- 1; 13
+abbrev pub openChecks : List ℕ → List Checked
+openChecks kept = checkCount (length kept) ∷ checkTotal (pos (sum kept)) ∷ []
+
 unfoldable pub openVerdict : List ℕ → Checked
-openVerdict kept = first (checkCount (length kept) ∷ checkTotal (pos (sum kept)) ∷ [])
+openVerdict kept = first (openChecks kept)
 
 -- what the checks mean
 unfoldable pub openRules : List ℕ → List Rule
@@ -31,10 +35,14 @@ pub record OpenFits (kept : List ℕ) : Type 0 where
   pub few : length kept ≤ 512
   pub small : sum kept ≤ maxTotal
 
--- what an answer tells
+-- what an answer tells, and the answer that tells it
 unfoldable pub openTells : Opened → Answered ℕ
 openTells (Total t) = accepted t
 openTells (Refused number place) = refused number place
+
+abbrev pub openAnswer : Answered ℕ → Opened
+openAnswer (accepted t) = Total t
+openAnswer (refused number place) = Refused number place
 
 -- the whole contract of the operation
 pub record OpenContract (kept : List ℕ) (answer : Opened) : Type 0 where

@@ -1,7 +1,7 @@
 -- Runs of any relation between a state, an event and the next state, so that a state with a scale, a member of a family or a book is
 -- another instance and not another theorem. Assumes nothing.
 use mathlib.Core.Path.{_≡_}
-use mathlib.Core.List.{List, [], _∷_}
+use mathlib.Core.List.{List, [], _∷_, _++_}
 use lib.IntN.{ℤ, pos, _+ℤ_}
 
 -- a list of events that leads from one state to another
@@ -9,10 +9,10 @@ pub data Run {E S : Type 0} (Move : S → E → S → Type 0) : S → List E →
   done : {s : S} → Run Move s [] s
   step : {s t u : S} {e : E} {es : List E} → Move s e t → Run Move t es u → Run Move s (e ∷ es) u
 
--- a fact of every event of a list
-pub data All {E : Type 0} (P : E → Type 0) : List E → Type 0 where
-  none : All P []
-  more : {e : E} {es : List E} → P e → All P es → All P (e ∷ es)
+-- what the events of a list give, one after another
+unfoldable pub collect : {E X : Type 0} → (E → List X) → List E → List X
+collect f [] = []
+collect f (e ∷ es) = f e ++ collect f es
 
 -- what the events of a list add up to
 unfoldable pub sumOf : {E : Type 0} → (E → ℤ) → List E → ℤ

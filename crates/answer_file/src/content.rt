@@ -1,14 +1,17 @@
 // The blocks of an answer file.
 ghost use mathlib.Core.Path.{_≡_};
-ghost use Prim.Native.Nat.{_+_, _*_, _≤_, _<_};
+ghost use Prim.Native.Nat.{_*_, _≤_};
 ghost use lib.ListN.{length};
 ghost use Rattle.numbers.specs.Lists.{written};
 ghost use Rattle.blocks.specs.Blocks.{blockBytes};
-ghost use Rattle.formats.specs.WriteAnswer.{answerBlocks, answerHead, massBlock, answerBytes, writeCall, writeVerdict, WriteContract};
+ghost use Rattle.formats.specs.WriteAnswer.{answerBlocks, answerHead, answerBytes, writeCall, writeVerdict, WriteContract};
+use crate::verdicts::file_length;
 use blocks::inner::fill_block;
+use blocks::tables::LIST;
+use blocks::tables::put_list_block;
+use blocks::tables::table_blocks;
 use formats::AnswerWritten;
 use numbers::Checked;
-use numbers::inner::least;
 use qlt::Repair;
 
 // Block 1.
@@ -22,29 +25,16 @@ fn put_head(buffer: &mut [u8], n: usize, repair: Repair)
     fill_block(&mut buffer[0..512], 1, &head);
 }
 
-// The k-th block of masses, from 0.
-fn put_mass_block(buffer: &mut [u8], masses: &[u32], n: usize, k: usize)
-    requires { ⌜ (n ≤ 512) × (125 * k < n) × (n ≤ length (now masses)) × (1024 + 512 * k ≤ length (now buffer)) ⌝ }
-    ensures { λ _. ⌜ now (buffer .exit) ≡ written (now (buffer .entry)) (512 + 512 * k) (blockBytes (k + 2) (massBlock n (now (masses .entry)) k)) ⌝ }
-{
-    let from = 125 * k;
-    let to = least(from + 125, n);
-    let at = 512 + 512 * k;
-    let end = at + 512;
-    let number = (k + 2) as u32;
-    fill_block(&mut buffer[at..end], number, &masses[from..to]);
-}
-
 // The whole file.
 fn put_answer(buffer: &mut [u8], n: usize, repair: Repair, masses: &[u32])
     requires { ⌜ (n ≤ 512) × (n ≤ length (now masses)) × (512 * answerBlocks n ≤ length (now buffer)) ⌝ }
     ensures { λ _. ⌜ now (buffer .exit) ≡ written (now (buffer .entry)) 0 (answerBytes n repair (now (masses .entry))) ⌝ }
 {
     put_head(buffer, n, repair);
-    let count = (n + 124) / 125;
+    let count = table_blocks(LIST, n);
     let mut k: usize = 0;
     while k < count {
-        put_mass_block(buffer, masses, n, k);
+        put_list_block(buffer, 2, masses, n, k);
         k += 1;
     }
 }
@@ -64,5 +54,5 @@ pub fn write_by(
         return AnswerWritten::Refused { number, place };
     }
     put_answer(buffer, cells, repair, masses);
-    AnswerWritten::Bytes(512 * (1 + (cells + 124) / 125))
+    AnswerWritten::Bytes(file_length(cells))
 }

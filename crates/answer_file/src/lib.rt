@@ -2,7 +2,6 @@
 // crate alone. Relies on `formats`, `blocks`, `checks`, `qlt` and `numbers`.
 ghost use Rattle.formats.specs.WriteAnswer.{writeCall, WriteContract};
 use formats::AnswerWritten;
-use numbers::Checked;
 use qlt::Repair;
 
 mod content;

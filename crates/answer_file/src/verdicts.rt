@@ -1,45 +1,39 @@
 // The checks of Write an answer, one function each, and their chain in 01's order.
 ghost use mathlib.Core.Path.{_≡_};
-ghost use Prim.Native.Nat.{_≤_};
+ghost use Prim.Native.Nat.{_*_, _≤_};
 ghost use lib.ListN.{length};
-ghost use Rattle.formats.specs.WriteAnswer.{checkSpace, checkOutcome, checkMasses, writeCall, writeVerdict};
-use checks::inner::sum_of;
+ghost use Rattle.formats.specs.WriteAnswer.{answerBlocks, checkSpace, checkOutcome, checkMasses, writeCall, writeVerdict};
+use blocks::tables::LIST;
+use blocks::tables::table_blocks;
 use numbers::Checked;
+use numbers::inner::and;
 use numbers::inner::check_count;
+use numbers::inner::sum_of;
 use numbers::inner::then;
+use numbers::inner::unless;
 use qlt::Repair;
+
+// How many bytes the file of n cells has.
+pub fn file_length(n: usize) -> usize
+    requires { ⌜ n ≤ 512 ⌝ }
+    ensures { λ r. ⌜ r ≡ 512 * answerBlocks n ⌝ }
+{
+    512 * (1 + table_blocks(LIST, n))
+}
 
 // 3: the buffer and the masses are long enough.
 fn check_space(n: usize, buffer: usize, masses: usize) -> Checked
     requires { ⌜ n ≤ 512 ⌝ }
     ensures { λ r. ⌜ r ≡ checkSpace n buffer masses ⌝ }
 {
-    if buffer < 512 * (1 + (n + 124) / 125) {
-        return Checked::Fail {
-            number: 3,
-            place: 0,
-        };
-    }
-    if masses < n {
-        return Checked::Fail {
-            number: 3,
-            place: 0,
-        };
-    }
-    Checked::Pass
+    unless(and(file_length(n) <= buffer, n <= masses), 3, 0)
 }
 
 // 16: the outcome is at most 2.
 fn check_outcome(outcome: u32) -> Checked
     ensures { λ r. ⌜ r ≡ checkOutcome outcome ⌝ }
 {
-    if outcome > 2 {
-        return Checked::Fail {
-            number: 16,
-            place: 1,
-        };
-    }
-    Checked::Pass
+    unless(outcome <= 2, 16, 1)
 }
 
 // 12: the first n masses add up to the total.
@@ -47,13 +41,7 @@ fn check_masses(n: usize, masses: &[u32], total: u32) -> Checked
     requires { ⌜ (n ≤ 512) × (n ≤ length (now masses)) ⌝ }
     ensures { λ r. ⌜ r ≡ checkMasses n (now (masses .entry)) total ⌝ }
 {
-    if sum_of(&masses[0..n]) == total as u64 {
-        return Checked::Pass;
-    }
-    Checked::Fail {
-        number: 12,
-        place: 0,
-    }
+    unless(sum_of(&masses[0..n]) == total as u64, 12, 0)
 }
 
 // The chain.

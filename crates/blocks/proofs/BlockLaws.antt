@@ -1,55 +1,62 @@
 -- Laws of blocks: what the checks mean, and that a block passes exactly if it is the bytes of some words at its number. Assumes nothing.
 use mathlib.Core.Path.{_≡_, refl, sym, ap, _∙_, subst}
 use mathlib.Core.Logic.{_↔_}
-use mathlib.Core.Bool.{true, false, and-false}
+use mathlib.Core.Bool.{true, false, _&&_}
 use mathlib.Core.List.{List, [], _∷_, _++_, append-assoc}
 use Prim.Native.Nat.{ℕ, zero, suc, _+_, _*_, _-_, _/_, _%_, _^_, _≤_, _<_}
 use native.Mathlib.Numerals.{sub-one}
-use native.Mathlib.Decide.{ℕ-discrete, decLt}
+use native.Mathlib.Decide.{decLt}
 use native.Mathlib.Omega.{arith}
-use borrow.Author.Tests.{le-leb, lt-leb, eq-eqb, ne-eqb}
-use lib.Dec.{leb, eqb}
-use lib.ListN.{length, take, drop, length-append, length-drop, drop-of-length-le, List·getD-eq-default}
-use lib.Seq.{take-all, take-append-le, drop-append-le, drop-at, drop-drop}
+use borrow.Author.Tests.{le-leb, lt-leb}
+use lib.Dec.{ltb, leb, eqb}
+use lib.ListN.{length, take, drop, length-append, drop-of-length-le, List·getD-eq-default}
+use lib.Seq.{drop-drop}
 use Rattle.numbers.specs.declared.Checked.the-variants.{Pass}
 use Rattle.numbers.specs.Sums.{ℕ-adds, sumTo}
 use Rattle.numbers.specs.Lists.{at, listTo, written}
-use Rattle.numbers.specs.Checks.{Decides, ruleFor, Holds, inOrder}
-use Rattle.numbers.proofs.TestLaws.{and-means, eq-means}
+use Rattle.numbers.specs.Checks.{Decides, ruleFor, Holds, DecidesAll}
+use Rattle.numbers.proofs.TestLaws.{and-means, lt-means, le-means, eq-means}
 use Rattle.numbers.proofs.SumLaws.{sumTo-ext}
 use Rattle.numbers.proofs.ListLaws.{length-listTo, getD-listTo}
 use Rattle.numbers.proofs.PartLaws.{length-part, written-seam}
 use Rattle.numbers.proofs.CheckLaws.{every-from, decides-for, decides-then, alone}
 use Rattle.blocks.specs.Words.{wordAt, wordBytes, wordsBytes, Bytes, Words}
-use Rattle.blocks.specs.Blocks.{firstCheck, secondCheck, headWord, blockBytes, fileBytes, hasBlock, blockOf, payloadOf, wordOf, payloadWord, isSound, checkSound, checkSpare, checkBlock, Sound, SpareZero, blockRules, IsBlock}
-use Rattle.blocks.proofs.WordLaws.{length-wordsBytes, wordsBytes-next, wordsBytes-ext, wordAt-seam, wordAt-back, wordAt-small, words-back, wordAt-part, bytes-part, bytes-append, wordBytes-bytes, wordsBytes-bytes}
+use Rattle.blocks.specs.Blocks.{firstCheck, secondCheck, headWord, blockBytes, hasBlock, blockOf, payloadOf, wordOf, payloadWord, isSound, checkSound, checkSpare, checkBlock, Sound, SpareZero, blockRules, IsBlock, payloadPlace, PayloadContract}
+use Rattle.blocks.proofs.WordLaws.{length-wordsBytes, wordsBytes-next, wordsBytes-ext, wordAt-seam, wordAt-back, wordAt-small, words-back, wordAt-part, bytes-part, bytes-append, wordBytes-bytes, wordsBytes-bytes, words-listTo}
 
 -- ---- whether a file has a block
 
-pub hasBlock-zero : (file : List ℕ) (b : ℕ) → b ≡ 0 → hasBlock file b ≡ false
+-- as the code tests it
+pub hasBlock-is : (file : List ℕ) (b : ℕ) → ltb 0 b && leb b (length file / 512) ≡ hasBlock file b
 unfolding hasBlock
-hasBlock-zero file b h = rw h
+hasBlock-is file b = ap (λ t. leb 1 b && t) (same (decLt (length file / 512) b))
+  where
+    same : Dec (length file / 512 < b) → leb b (length file / 512) ≡ leb (512 * b) (length file)
+    same (yes l) = lt-leb b (length file / 512) l ∙ sym (lt-leb (512 * b) (length file) (omega arith))
+    same (no l) = le-leb b (length file / 512) (omega arith) ∙ sym (le-leb (512 * b) (length file) (omega arith))
 
-pub hasBlock-past : (file : List ℕ) (b : ℕ) → length file / 512 < b → hasBlock file b ≡ false
+pub hasBlock-means : (file : List ℕ) (b : ℕ) → (hasBlock file b ≡ true) ↔ ((0 < b) × (512 * b ≤ length file))
 unfolding hasBlock
-hasBlock-past file b h = rw (lt-leb (512 * b) (length file) (omega arith)) (and-false (leb 1 b))
+hasBlock-means file b = and-means (lt-means 0 b) (le-means (512 * b) (length file))
 
 pub hasBlock-in : (file : List ℕ) (b : ℕ) → 0 < b → 512 * b ≤ length file → hasBlock file b ≡ true
-unfolding hasBlock
-hasBlock-in file b z h = rw (le-leb (512 * b) (length file) h, le-leb 1 b (omega arith))
+hasBlock-in file b z h = hasBlock-means file b .1 (z, h)
 
 -- ---- the block and its payload
 
-pub payload-none : (file : List ℕ) (b : ℕ) → hasBlock file b ≡ false → [] ≡ payloadOf file b
-unfolding payloadOf
-payload-none file b h = rw h
-
 -- as the code cuts them
-pub payload-part : (file : List ℕ) (b from end : ℕ) → 0 < b → 512 * b ≤ length file → from ≡ 512 * (b - 1) + 4 → end ≡ from + 500 → take (end - from) (drop from file) ≡ payloadOf file b
-unfolding payloadOf
-payload-part file b from end z h p q =
-    let e : end - from ≡ 500 = omega arith in
-    rw (hasBlock-in file b z h, e, p)
+module _ (file : List ℕ) (b : ℕ) (place : ℕ × ℕ) where
+  pub payload-none : (from : ℕ) → hasBlock file b ≡ false → from ≡ 0 → PayloadContract file b place (take (from - from) (drop from file)) (place .0, from + place .1)
+  unfolding payloadOf payloadPlace
+  payload-none from h e =
+      let z : from - from ≡ 0 = omega arith in
+      record { gives = rw (h, z); lies = rw (h, e) }
+
+  pub payload-part : (from end : ℕ) → hasBlock file b ≡ true → from ≡ 512 * (b - 1) + 4 → end ≡ from + 500 → PayloadContract file b place (take (end - from) (drop from file)) (place .0, from + place .1)
+  unfolding payloadOf payloadPlace
+  payload-part from end h p q =
+      let e : end - from ≡ 500 = omega arith in
+      record { gives = rw (h, e, p); lies = rw (h, p) }
 
 pub block-part : (file : List ℕ) (b from end : ℕ) → 0 < b → 512 * b ≤ length file → from ≡ 512 * (b - 1) → end ≡ from + 512 → take (end - from) (drop from file) ≡ blockOf file b
 unfolding blockOf
@@ -147,7 +154,7 @@ block-filled b ws d p q r s t len hb hw hp hs ht hq hr =
     let z : drop 4 (drop 4 (drop 504 d)) ≡ [] = simp drop-drop (drop-of-length-le d {i = 512} (omega arith)) in
     er ∙ rw (z, append-assoc, es, et)
 
--- ---- the bytes of blocks and files
+-- ---- the bytes of a block
 
 pub length-blockBytes : (b : ℕ) (ws : List ℕ) → length (blockBytes b ws) ≡ 512
 unfolding blockBytes wordBytes
@@ -155,24 +162,12 @@ length-blockBytes b ws =
     length-append (wordsBytes 126 (headWord b ws)) (wordBytes (firstCheck (headWord b ws)) ++ wordBytes (secondCheck (headWord b ws)))
     ∙ omega (arith, length-wordsBytes 126 (headWord b ws))
 
-pub length-fileBytes : (ws : ℕ → List ℕ) (k : ℕ) → length (fileBytes ws k) ≡ 512 * k
-unfolding fileBytes
-length-fileBytes ws zero = refl
-length-fileBytes ws (suc k) =
-    length-append (fileBytes ws k) (blockBytes (suc k) (ws (suc k)))
-    ∙ omega (arith, length-fileBytes ws k, length-blockBytes (suc k) (ws (suc k)))
-
 pub blockBytes-bytes : (b : ℕ) (ws : List ℕ) → Bytes (blockBytes b ws)
 unfolding blockBytes
 blockBytes-bytes b ws =
     let w : ℕ → ℕ = headWord b ws in
     bytes-append (wordsBytes 126 w) (wordBytes (firstCheck w) ++ wordBytes (secondCheck w)) (wordsBytes-bytes 126 w)
     (bytes-append (wordBytes (firstCheck w)) (wordBytes (secondCheck w)) (wordBytes-bytes (firstCheck w)) (wordBytes-bytes (secondCheck w)))
-
-pub fileBytes-bytes : (ws : ℕ → List ℕ) (k : ℕ) → Bytes (fileBytes ws k)
-unfolding fileBytes
-fileBytes-bytes ws zero = λ i. omega arith
-fileBytes-bytes ws (suc k) = bytes-append (fileBytes ws k) (blockBytes (suc k) (ws (suc k))) (fileBytes-bytes ws k) (blockBytes-bytes (suc k) (ws (suc k)))
 
 -- the words of a block that was written
 pub written-word : (b : ℕ) (ws : List ℕ) (k : ℕ) → b < 2 ^ 32 → Words ws → k < 126 → wordOf (blockBytes b ws) k ≡ headWord b ws k
@@ -204,21 +199,6 @@ written-sound b ws hb hw =
       second = written-second b ws ∙ secondCheck-ext (headWord b ws) (wordOf (blockBytes b ws)) agree;
     }
 
--- ---- the tests of a block, in turn
-
-module _ (block : List ℕ) (b : ℕ) where
-  pub unsound-number : (wordOf block 0 ≡ b → ⊥) → false ≡ isSound block b
-  unfolding isSound
-  unsound-number n = rw (ne-eqb _ _ n)
-
-  pub unsound-first : wordOf block 0 ≡ b → (wordOf block 126 ≡ firstCheck (wordOf block) → ⊥) → false ≡ isSound block b
-  unfolding isSound
-  unsound-first e n = rw (eq-eqb _ _ e, ne-eqb _ _ n)
-
-  pub sound-last : wordOf block 0 ≡ b → wordOf block 126 ≡ firstCheck (wordOf block) → eqb (wordOf block 127) (secondCheck (wordOf block)) ≡ isSound block b
-  unfolding isSound
-  sound-last e f = rw (eq-eqb _ _ e, eq-eqb _ _ f)
-
 -- ---- what the checks mean
 
 pub sound-decides : (file : List ℕ) (b : ℕ) → Decides (checkSound file b) (ruleFor 15 b (Sound (blockOf file b) b))
@@ -240,117 +220,76 @@ spare-decides file used b h =
       λ z. m .1 (λ k i l. z k i (omega arith)),
     )
 
-pub block-decides : (file : List ℕ) (used : ℕ → ℕ) (b : ℕ) → used b ≤ 125 → Decides (checkBlock file used b) (inOrder (blockRules file used b))
+pub block-decides : (file : List ℕ) (used : ℕ → ℕ) (b : ℕ) → used b ≤ 125 → DecidesAll (checkBlock file used b) (blockRules file used b)
 unfolding checkBlock
 block-decides file used b h =
     decides-then (checkSound file b) (checkSpare file (used b) b) (ruleFor 15 b (Sound (blockOf file b) b)) (ruleFor 16 b (SpareZero file (used b) b) ∷ []) (sound-decides file b) (alone (checkSpare file (used b) b) (ruleFor 16 b (SpareZero file (used b) b)) (spare-decides file (used b) b h))
+
+pub block-fits : (file : List ℕ) (used : ℕ → ℕ) (b : ℕ) → used b ≤ 125 → (checkBlock file used b ≡ Pass) ↔ (Sound (blockOf file b) b × SpareZero file (used b) b)
+unfolding Holds
+block-fits file used b u =
+    let d = block-decides file used b u in
+    (λ e. let h = d .passes .0 e in (h .0, h .1 .0), λ h. d .passes .1 (h .0, (h .1, tt)))
 
 -- ---- a block passes exactly if it is the bytes of some words at its number
 
 -- the bytes of words pass
 pub block-passes : (file : List ℕ) (used : ℕ → ℕ) (b : ℕ) → 0 < b → b < 2 ^ 32 → 512 * b ≤ length file → used b ≤ 125 → IsBlock (blockOf file b) (used b) b → checkBlock file used b ≡ Pass
-unfolding Holds
 block-passes file used b z s h u i =
     let ws : List ℕ = i .words in
-    block-decides file used b u .passes .1 (
+    block-fits file used b u .1 (
       subst (λ l. Sound l b) (sym (i .same)) (written-sound b ws s (i .fit)),
-      (
-        λ k j l.
-            block-word file b k z h l
-            ∙ ap (λ x. wordOf x (suc k)) (i .same)
-            ∙ written-word b ws (suc k) s (i .fit) (omega arith)
-            ∙ headWord-suc b ws k
-            ∙ List·getD-eq-default ws 0 {n = k} (omega (arith, i .count)),
-        tt,
-      ),
+      λ k j l.
+          block-word file b k z h l
+          ∙ ap (λ x. wordOf x (suc k)) (i .same)
+          ∙ written-word b ws (suc k) s (i .fit) (omega arith)
+          ∙ headWord-suc b ws k
+          ∙ List·getD-eq-default ws 0 {n = k} (omega (arith, i .count)),
     )
+
+-- a sound block is the bytes of any words that it holds
+pub sound-block : (file : List ℕ) (b : ℕ) (ws : List ℕ) → Bytes file → 0 < b → 512 * b ≤ length file → Sound (blockOf file b) b → ((j : ℕ) → j < 125 → payloadWord file b j ≡ at ws j) → blockOf file b ≡ blockBytes b ws
+unfolding blockBytes wordOf
+sound-block file b ws y z h s r =
+    let l : List ℕ = blockOf file b in
+    let w : ℕ → ℕ = wordOf l in
+    let v : ℕ → ℕ = headWord b ws in
+    words-back 128 l (blockOf-bytes file b y z h) (length-blockOf file b z h)
+    ∙ wordsBytes-next 127 w
+    ∙ ap (λ x. x ++ wordBytes (w 127)) (wordsBytes-next 126 w)
+    ∙ append-assoc (wordsBytes 126 w) (wordBytes (w 126)) (wordBytes (w 127))
+    ∙ joined (wordsBytes-ext 126 w v agree) (s .first ∙ firstCheck-ext w v agree) (s .second ∙ secondCheck-ext w v agree)
+  where
+    agree : (k : ℕ) → k < 126 → wordOf (blockOf file b) k ≡ headWord b ws k
+    agree zero l = s .number ∙ headWord-zero b ws 0 refl
+    agree (suc k) l = sym (block-word file b k z h (omega arith)) ∙ r k (omega arith) ∙ sym (headWord-suc b ws k)
+
+    joined : {p q : List ℕ} {a c d e : ℕ} → p ≡ q → a ≡ c → d ≡ e → p ++ (wordBytes a ++ wordBytes d) ≡ q ++ (wordBytes c ++ wordBytes e)
+    joined f g i = rw (f, g, i)
 
 -- what passes is the bytes of its own words
 module _ (file : List ℕ) (used b : ℕ) (y : Bytes file) (z : 0 < b) (h : 512 * b ≤ length file) where
   abbrev own : List ℕ
   own = listTo used (payloadWord file b)
 
-  payloadWord-small : (i : ℕ) → payloadWord file b i < 2 ^ 32
+  pub own-small : Words own
   unfolding payloadWord
-  payloadWord-small i = wordAt-small (payloadOf file b) (4 * i) (payloadOf-bytes file b y z h)
+  own-small = words-listTo used (payloadWord file b) (λ i l. wordAt-small (payloadOf file b) (4 * i) (payloadOf-bytes file b y z h))
 
-  own-fit : Words own
-  own-fit i = go (decLt i used)
+  own-word : SpareZero file used b → (j : ℕ) → j < 125 → payloadWord file b j ≡ at own j
+  own-word t j l = go (decLt j used)
     where
-      go : Dec (i < used) → at own i < 2 ^ 32
-      go (yes l) = rw (getD-listTo used (payloadWord file b) i 0 l) (payloadWord-small i)
-      go (no l) = rw (List·getD-eq-default own 0 {n = i} (omega (arith, length-listTo used (payloadWord file b)))) (omega arith)
+      go : Dec (j < used) → payloadWord file b j ≡ at own j
+      go (yes m) = sym (getD-listTo used (payloadWord file b) j 0 m)
+      go (no m) = t j (omega arith) l ∙ sym (List·getD-eq-default own 0 {n = j} (omega (arith, length-listTo used (payloadWord file b))))
 
-  own-word : Sound (blockOf file b) b → SpareZero file used b → (k : ℕ) → k < 126 → wordOf (blockOf file b) k ≡ headWord b own k
-  own-word s t zero l = s .number ∙ headWord-zero b own 0 refl
-  own-word s t (suc k) l =
-      sym (block-word file b k z h (omega arith))
-      ∙ go (decLt k used)
-      ∙ sym (headWord-suc b own k)
-    where
-      go : Dec (k < used) → payloadWord file b k ≡ at own k
-      go (yes m) = sym (getD-listTo used (payloadWord file b) k 0 m)
-      go (no m) = t k (omega arith) (omega arith) ∙ sym (List·getD-eq-default own 0 {n = k} (omega (arith, length-listTo used (payloadWord file b))))
-
-  own-same : Sound (blockOf file b) b → SpareZero file used b → blockOf file b ≡ blockBytes b own
-  unfolding blockBytes wordOf
-  own-same s t =
-      let l : List ℕ = blockOf file b in
-      let w : ℕ → ℕ = wordOf l in
-      let v : ℕ → ℕ = headWord b own in
-      let agree : ((k : ℕ) → k < 126 → w k ≡ v k) = own-word s t in
-      words-back 128 l (blockOf-bytes file b y z h) (length-blockOf file b z h)
-      ∙ wordsBytes-next 127 w
-      ∙ ap (λ x. x ++ wordBytes (w 127)) (wordsBytes-next 126 w)
-      ∙ append-assoc (wordsBytes 126 w) (wordBytes (w 126)) (wordBytes (w 127))
-      ∙ joined (wordsBytes-ext 126 w v agree) (s .first ∙ firstCheck-ext w v agree) (s .second ∙ secondCheck-ext w v agree)
-    where
-      joined : {p q : List ℕ} {a c d e : ℕ} → p ≡ q → a ≡ c → d ≡ e → p ++ (wordBytes a ++ wordBytes d) ≡ q ++ (wordBytes c ++ wordBytes e)
-      joined f g i = rw (f, g, i)
-
-  passes-block : Sound (blockOf file b) b → SpareZero file used b → IsBlock (blockOf file b) used b
-  passes-block s t = record { words = own; count = length-listTo used (payloadWord file b); fit = own-fit; same = own-same s t }
+  pub own-same : Sound (blockOf file b) b → SpareZero file used b → blockOf file b ≡ blockBytes b own
+  own-same s t = sound-block file b own y z h s (own-word t)
 
 pub block-means : (file : List ℕ) (used : ℕ → ℕ) (b : ℕ) → Bytes file → 0 < b → b < 2 ^ 32 → 512 * b ≤ length file → used b ≤ 125 → (checkBlock file used b ≡ Pass) ↔ IsBlock (blockOf file b) (used b) b
-unfolding Holds
 block-means file used b y z s h u = (
-  λ q. let r = block-decides file used b u .passes .0 q in passes-block file (used b) b y z h (r .0) (r .1 .0),
+  λ q.
+      let r = block-fits file used b u .0 q in
+      record { words = _; count = length-listTo (used b) (payloadWord file b); fit = own-small file (used b) b y z h; same = own-same file (used b) b y z h (r .0) (r .1) },
   λ i. block-passes file used b z s h u i,
 )
-
--- ---- the blocks of a file that was written
-
-cut : (ws : ℕ → List ℕ) (k b : ℕ) → b < k → take 512 (drop (512 * b) (fileBytes ws k)) ≡ blockBytes (suc b) (ws (suc b))
-unfolding fileBytes
-cut ws zero b l = absurd (omega arith)
-cut ws (suc k) b l = go (ℕ-discrete b k) (λ m. cut ws k b m)
-  where
-    go : Dec (b ≡ k) → (b < k → take 512 (drop (512 * b) (fileBytes ws k)) ≡ blockBytes (suc b) (ws (suc b))) → take 512 (drop (512 * b) (fileBytes ws k ++ blockBytes (suc k) (ws (suc k)))) ≡ blockBytes (suc b) (ws (suc b))
-    go (yes e) r =
-        let x : List ℕ = blockBytes (suc k) (ws (suc k)) in
-        ap (take 512) (drop-at (fileBytes ws k) x (512 * b) (omega (arith, length-fileBytes ws k)))
-        ∙ take-all 512 x (omega (arith, length-blockBytes (suc k) (ws (suc k))))
-        ∙ ap (λ i. blockBytes (suc i) (ws (suc i))) (sym e)
-    go (no e) r =
-        let f : List ℕ = fileBytes ws k in
-        let x : List ℕ = blockBytes (suc k) (ws (suc k)) in
-        ap (take 512) (drop-append-le (512 * b) f x (omega (arith, length-fileBytes ws k)))
-        ∙ take-append-le 512 (drop (512 * b) f) x (omega (arith, length-drop (512 * b) f, length-fileBytes ws k))
-        ∙ r (omega arith)
-
-pub file-block : (ws : ℕ → List ℕ) (k b : ℕ) → 0 < b → b ≤ k → blockOf (fileBytes ws k) b ≡ blockBytes b (ws b)
-unfolding blockOf
-file-block ws k zero z l = absurd (omega arith)
-file-block ws k (suc b) z l = rw (hasBlock-in (fileBytes ws k) (suc b) z (omega (arith, length-fileBytes ws k)), sub-one) (cut ws k b (omega arith))
-
-pub file-word : (ws : ℕ → List ℕ) (k b j : ℕ) → 0 < b → b ≤ k → b < 2 ^ 32 → j < 125 → length (ws b) ≤ 125 → Words (ws b) → payloadWord (fileBytes ws k) b j ≡ at (ws b) j
-file-word ws k b j z l s m u w =
-    block-word (fileBytes ws k) b j z (omega (arith, length-fileBytes ws k)) m
-    ∙ ap (λ x. wordOf x (suc j)) (file-block ws k b z l)
-    ∙ written-word b (ws b) (suc j) s w (omega arith)
-    ∙ headWord-suc b (ws b) j
-
-pub file-passes : (ws : ℕ → List ℕ) (used : ℕ → ℕ) (k b : ℕ) → 0 < b → b ≤ k → b < 2 ^ 32 → used b ≤ 125 → length (ws b) ≡ used b → Words (ws b) → checkBlock (fileBytes ws k) used b ≡ Pass
-file-passes ws used k b z l s u n w =
-    block-passes (fileBytes ws k) used b z s (omega (arith, length-fileBytes ws k)) u
-    (record { words = ws b; count = n; fit = w; same = file-block ws k b z l })

@@ -1,3 +1,5 @@
--- The laws of words and blocks, by file; each stands over the definitions of specs/ alone.
+-- The laws of words, blocks and files, by file; each stands over the definitions of specs/ alone.
 pub mod WordLaws
 pub mod BlockLaws
+pub mod FileLaws
+pub mod TableLaws

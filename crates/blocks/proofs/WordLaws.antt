@@ -1,18 +1,24 @@
--- Laws of words in bytes: a word is read back from its bytes, and bytes are those of their words. Assumes nothing.
+-- Laws of words: a word is read back from its bytes, bytes are those of their words, and a signed number is read back from its word.
+-- Assumes nothing.
 use mathlib.Core.Path.{_≡_, refl, sym, ap, ap₂, _∙_}
 use mathlib.Core.List.{List, [], _∷_, _++_, append-assoc}
-use Prim.Native.Nat.{ℕ, zero, suc, _+_, _*_, _/_, _%_, _^_, _≤_, _<_}
+use Prim.Native.Nat.{ℕ, zero, suc, _+_, _*_, _-_, _/_, _%_, _^_, _≤_, _<_}
 use native.Mathlib.Nat.{add-zero}
 use native.Mathlib.Numerals.{add-one}
 use native.Mathlib.Decide.{decLt}
 use native.Mathlib.Omega.{arith}
+use borrow.Author.Tests.{lt-ltb, le-ltb}
+use lib.IntN.{ℤ, pos, negsuc}
+use lib.Signed.{_≤ℤ_}
 use lib.ListN.{length, take, drop, length-append, length-take, List·getD-eq-default}
-use lib.Seq.{take-add, take-all, drop-cons, drop-drop}
+use lib.Seq.{take-add, take-all, drop-cons, drop-drop, getD-drop}
 use Rattle.numbers.specs.Sums.{ℕ-adds, sumTo}
-use Rattle.numbers.specs.Lists.{at, written}
+use Rattle.numbers.specs.Lists.{at, listTo, written}
+use Rattle.numbers.proofs.SignedLaws.{le-rule, parts-le}
 use Rattle.numbers.proofs.SumLaws.{sumTo-next}
+use Rattle.numbers.proofs.ListLaws.{length-listTo, getD-listTo}
 use Rattle.numbers.proofs.PartLaws.{getD-part, getD-skip, written-seam}
-use Rattle.blocks.specs.Words.{wordAt, wordBytes, wordsBytes, Bytes}
+use Rattle.blocks.specs.Words.{wordAt, wordBytes, wordsBytes, Bytes, Words, signedWord, wordSigned}
 
 -- a sum of words that wraps, with one summand more: the summand may have wrapped already
 pub wrap-next : (f : ℕ → ℕ) (n a x : ℕ) → a ≡ sumTo ℕ-adds n f % 2 ^ 32 → x % 2 ^ 32 ≡ f n % 2 ^ 32 → (a + x) % 2 ^ 32 ≡ sumTo ℕ-adds (n + 1) f % 2 ^ 32
@@ -144,6 +150,9 @@ bytes-part n from l b i = go (decLt i n)
     go (yes m) = rw (getD-part n from l i 0 m) (b (from + i))
     go (no m) = rw (List·getD-eq-default (take n (drop from l)) 0 {n = i} (omega (arith, length-take n (drop from l)))) (omega arith)
 
+pub bytes-drop : (n : ℕ) (l : List ℕ) → Bytes l → Bytes (drop n l)
+bytes-drop n l b i = rw (getD-drop n l i 0) (b (n + i))
+
 pub bytes-append : (p q : List ℕ) → Bytes p → Bytes q → Bytes (p ++ q)
 bytes-append [] q a b i = b i
 bytes-append (x ∷ p) q a b zero = a zero
@@ -161,3 +170,38 @@ pub wordsBytes-bytes : (k : ℕ) (w : ℕ → ℕ) → Bytes (wordsBytes k w)
 unfolding wordsBytes
 wordsBytes-bytes zero w = λ i. omega arith
 wordsBytes-bytes (suc k) w = bytes-append (wordsBytes k w) (wordBytes (w k)) (wordsBytes-bytes k w) (wordBytes-bytes (w k))
+
+-- ---- lists of words
+
+pub words-listTo : (k : ℕ) (g : ℕ → ℕ) → ((i : ℕ) → i < k → g i < 2 ^ 32) → Words (listTo k g)
+words-listTo k g h i = go (decLt i k)
+  where
+    go : Dec (i < k) → at (listTo k g) i < 2 ^ 32
+    go (yes l) = rw (getD-listTo k g i 0 l) (h i l)
+    go (no l) = rw (List·getD-eq-default (listTo k g) 0 {n = i} (omega (arith, length-listTo k g))) (omega arith)
+
+-- ---- two's complement
+
+-- a number of 32 bits is the one that its word stands for
+pub signed-back : (z : ℤ) → negsuc 2147483647 ≤ℤ z → z ≤ℤ pos 2147483647 → (wordSigned (signedWord z) ≡ z) × (signedWord z < 2 ^ 32)
+unfolding wordSigned signedWord
+signed-back (pos n) l h = (rw (lt-ltb n 2147483648 (omega (arith, le-rule h))), omega (arith, le-rule h))
+signed-back (negsuc n) l h =
+    let k : n ≤ 2147483647 = omega (arith, le-rule l) in
+    (rw (le-ltb (4294967295 - n) 2147483648 (omega arith)) (ap negsuc (omega arith)), omega arith)
+
+-- a word is that of the number it stands for, which has 32 bits
+pub word-signed-back : (x : ℕ) → x < 2 ^ 32 → signedWord (wordSigned x) ≡ x
+unfolding signedWord wordSigned
+word-signed-back x h = go (decLt x 2147483648)
+  where
+    go : Dec (x < 2147483648) → signedWord (wordSigned x) ≡ x
+    go (yes l) = unfold signedWord wordSigned in (rw (lt-ltb x 2147483648 l))
+    go (no l) = unfold signedWord wordSigned in (rw (le-ltb x 2147483648 (omega arith)) (omega arith))
+
+pub word-signed-fits : (x : ℕ) → x < 2 ^ 32 → (negsuc 2147483647 ≤ℤ wordSigned x) × (wordSigned x ≤ℤ pos 2147483647)
+word-signed-fits x h = go (decLt x 2147483648)
+  where
+    go : Dec (x < 2147483648) → (negsuc 2147483647 ≤ℤ wordSigned x) × (wordSigned x ≤ℤ pos 2147483647)
+    go (yes l) = unfold wordSigned in (rw (lt-ltb x 2147483648 l) (parts-le (omega arith), parts-le (omega arith)))
+    go (no l) = unfold wordSigned in (rw (le-ltb x 2147483648 (omega arith)) (parts-le (omega arith), parts-le (omega arith)))

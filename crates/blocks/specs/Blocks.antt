@@ -95,7 +95,20 @@ pub record IsBlock (block : List ℕ) (used b : ℕ) : Type 0 where
   pub fit : Words words
   pub same : block ≡ blockBytes b words
 
--- ---- the operation Payload: that part of the file, and an empty one where the file has no such block
+-- a file is the bytes of some words: blocks 1 to k, and `used b` words in block b
+pub record IsFile (file : List ℕ) (used : ℕ → ℕ) (k : ℕ) : Type 0 where
+  pub words : ℕ → List ℕ
+  pub count : (b : ℕ) → 0 < b → b ≤ k → length (words b) ≡ used b
+  pub fit : (b : ℕ) → 0 < b → b ≤ k → Words (words b)
+  pub same : file ≡ fileBytes words k
 
-pub record PayloadContract (file : List ℕ) (b : ℕ) (part : List ℕ) : Type 0 where
+-- ---- the operation Payload: that part of the file, and the empty one at its start where the file has no such block
+
+-- where the part lies, of a file that lies at a place: the same block of memory, and an offset in it
+unfoldable pub payloadPlace : List ℕ → ℕ → ℕ × ℕ → ℕ × ℕ
+payloadPlace file b place = (place .0, cond (hasBlock file b) (512 * (b - 1) + 4) 0 + place .1)
+
+-- the whole contract of the operation: the part's bytes, and where it lies
+pub record PayloadContract (file : List ℕ) (b : ℕ) (place : ℕ × ℕ) (part : List ℕ) (place′ : ℕ × ℕ) : Type 0 where
   pub gives : part ≡ payloadOf file b
+  pub lies : place′ ≡ payloadPlace file b place

@@ -1,6 +1,9 @@
--- Words of 32 bits in bytes, low byte first. Assumes nothing.
+-- Words of 32 bits in bytes, low byte first, and signed numbers in words. Assumes nothing.
+use mathlib.Core.Bool.{cond}
 use mathlib.Core.List.{List, [], _∷_, _++_}
-use Prim.Native.Nat.{ℕ, zero, suc, _+_, _*_, _/_, _%_, _^_, _<_}
+use Prim.Native.Nat.{ℕ, zero, suc, _+_, _*_, _-_, _/_, _%_, _^_, _<_}
+use lib.Dec.{ltb}
+use lib.IntN.{ℤ, pos, negsuc}
 use Rattle.numbers.specs.Lists.{at}
 
 -- the word whose first byte is at an index
@@ -22,3 +25,11 @@ Bytes l = (i : ℕ) → at l i < 256
 
 abbrev pub Words : List ℕ → Type 0
 Words l = (i : ℕ) → at l i < 2 ^ 32
+
+-- ---- two's complement: the word of a signed number, and the number that a word stands for
+unfoldable pub signedWord : ℤ → ℕ
+signedWord (pos n) = n
+signedWord (negsuc n) = 4294967295 - n
+
+unfoldable pub wordSigned : ℕ → ℤ
+wordSigned x = cond (ltb x 2147483648) (pos x) (negsuc (4294967295 - x))

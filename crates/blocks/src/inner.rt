@@ -1,15 +1,17 @@
 // For the crates of files: words in bytes, the checks of a block, and writing a block. Each function has its whole contract.
 ghost use mathlib.Core.Path.{_≡_};
-ghost use mathlib.Core.Bool.{Bool};
 ghost use mathlib.Core.List.{_++_};
 ghost use Prim.Native.Nat.{_+_, _*_, _-_, _≤_, _<_, _^_};
 ghost use lib.Dec.{eqb};
 ghost use lib.ListN.{length, drop};
 ghost use Rattle.numbers.specs.Lists.{written};
 ghost use Rattle.numbers.specs.Checks.{everyFrom};
-ghost use Rattle.blocks.specs.Words.{wordAt, wordBytes, wordsBytes};
+ghost use Rattle.blocks.specs.Words.{wordAt, wordBytes, wordsBytes, signedWord, wordSigned};
 ghost use Rattle.blocks.specs.Blocks.{wordOf, payloadWord, firstCheck, secondCheck, isSound, checkSound, checkSpare, checkBlock, headWord, blockBytes};
 use numbers::Checked;
+use numbers::inner::and;
+use numbers::inner::fail_at;
+use numbers::inner::then;
 
 // The two check words of a block.
 pub struct CheckWords {
@@ -45,6 +47,27 @@ pub fn put_word(bytes: &mut [u8], i: usize, x: u32)
     bytes[i + 3] = (x / 16777216 % 256) as u8;
 }
 
+// The number that a word stands for in two's complement, and the word of a number.
+pub fn word_signed(x: u32) -> i32
+    ensures { λ r. ⌜ r ≡ wordSigned x ⌝ }
+{
+    if x < 2147483648 {
+        x as i32
+    } else {
+        -1 - (4294967295 - x) as i32
+    }
+}
+
+pub fn signed_word(z: i32) -> u32
+    ensures { λ r. ⌜ r ≡ signedWord z ⌝ }
+{
+    if z < 0 {
+        4294967295 - (-1 - z) as u32
+    } else {
+        z as u32
+    }
+}
+
 // The check words that a block's first 126 words call for.
 pub fn check_words(block: &[u8]) -> CheckWords
     requires { ⌜ length (now block) ≡ 512 ⌝ }
@@ -66,14 +89,13 @@ pub fn is_sound(block: &[u8], number: usize) -> bool
     requires { ⌜ length (now block) ≡ 512 ⌝ }
     ensures { λ r. ⌜ r ≡ isSound (now (block .entry)) number ⌝ }
 {
+    let told = word_at(block, 0) as usize;
     let s = check_words(block);
-    if word_at(block, 0) as usize != number {
-        return false;
-    }
-    if word_at(block, 504) != s.first {
-        return false;
-    }
-    word_at(block, 508) == s.second
+    let checks = and(
+        word_at(block, 504) == s.first,
+        word_at(block, 508) == s.second,
+    );
+    and(told == number, checks)
 }
 
 // 15: block `number` has its number and its check words.
@@ -86,7 +108,7 @@ pub fn check_sound(file: &[u8], number: usize) -> Checked
     if is_sound(&file[at..end], number) {
         return Checked::Pass;
     }
-    numbers::inner::fail_at(15, number)
+    fail_at(15, number)
 }
 
 // Word k of block `number`'s payload.
@@ -120,7 +142,7 @@ pub fn check_spare(file: &[u8], used: usize, number: usize) -> Checked
     if is_spare(file, used, number) {
         return Checked::Pass;
     }
-    numbers::inner::fail_at(16, number)
+    fail_at(16, number)
 }
 
 // 15, then 16.
@@ -128,7 +150,7 @@ pub fn check_block(file: &[u8], used: usize, number: usize) -> Checked
     requires { ⌜ (0 < number) × (512 * number ≤ length (now file)) × (number < 2 ^ 32) × (used ≤ 125) ⌝ }
     ensures { λ r. ⌜ r ≡ checkBlock (now (file .entry)) (λ _. used) number ⌝ }
 {
-    numbers::inner::then(check_sound(file, number), check_spare(file, used, number))
+    then(check_sound(file, number), check_spare(file, used, number))
 }
 
 // Word i of a block to be written, before its check words.

@@ -1,20 +1,20 @@
-// Blocks of 512 bytes: words, check words, numbers and payloads. Public: `payload`; what the crates of files need besides is in `inner`.
+// Blocks of 512 bytes: words, check words, numbers and payloads. Public: `payload`; what the crates of files need besides is in `inner` and `tables`.
 // Relies on `numbers`.
+ghost use denote.Ref.{ptr};
 ghost use Rattle.blocks.specs.Blocks.{PayloadContract};
 
 pub mod inner;
+pub mod tables;
 
-// The payload of block `number`, counted from 1: that part of the file, or an empty part where the file has no such block.
+// The payload of block `number`, counted from 1: that part of the file itself, or the empty part at its start where the file has no such block.
 pub fn payload(file: &[u8], number: usize) -> &[u8]
-    ensures { λ r. ⌜ PayloadContract (now (file .entry)) number (now r) ⌝ }
+    ensures { λ r. ⌜ PayloadContract (now (file .entry)) number (ptr (file .entry)) (now r) (ptr r) ⌝ }
 {
-    if number == 0 {
-        return &file[0..0];
+    let length = file.len();
+    if numbers::inner::and(0 < number, number <= length / 512) {
+        let at = 512 * (number - 1) + 4;
+        let end = at + 500;
+        return &file[at..end];
     }
-    if file.len() / 512 < number {
-        return &file[0..0];
-    }
-    let at = 512 * (number - 1) + 4;
-    let end = at + 500;
-    &file[at..end]
+    &file[0..0]
 }

@@ -1,6 +1,6 @@
 -- What Split's verdict means (A3), that an answer tells its verdict and nothing else, and what the masses of an accepted call are
 -- (B2 to B5 of the operation). Assumes nothing.
-use mathlib.Core.Path.{_≡_, refl, sym, _∙_, ap, ap₂, subst}
+use mathlib.Core.Path.{_≡_, refl, sym, _∙_, ap, subst}
 use mathlib.Core.Logic.{_↔_}
 use mathlib.Core.Bool.{true, _&&_}
 use mathlib.Core.List.{List, [], _∷_}
@@ -10,22 +10,22 @@ use lib.Dec.{eqb}
 use lib.IntN.{ℤ, pos, natAbs, _-ℤ_}
 use lib.Signed.{_≤ℤ_}
 use lib.ListN.{length}
-use Rattle.numbers.specs.declared.Checked.{Checked}
 use Rattle.numbers.specs.declared.Checked.the-variants.{Pass, Fail}
 use Rattle.numbers.specs.Sums.{ℕ-adds, ℤ-adds, sumTo}
 use Rattle.numbers.specs.Lists.{atℤ}
 use Rattle.numbers.specs.Signed.{over, under}
-use Rattle.numbers.specs.Checks.{after, both, first, checkCount, Decides, rule, ruleAt, inOrder, Holds, Broken, maxTotal}
-use Rattle.numbers.proofs.TestLaws.{and-means, eq-means}
+use Rattle.numbers.specs.Checks.{after, first, checkCount, Decides, rule, ruleAt, Holds, Broken, maxTotal, DecidesAll, RefuseWith}
+use Rattle.numbers.proofs.TestLaws.{and-means, eq-means, injective}
 use Rattle.numbers.proofs.SumLaws.{sumTo-ext, sumTo-none, sumTo-over}
 use Rattle.numbers.proofs.ListLaws.{length-listTo, getD-listTo}
 use Rattle.numbers.proofs.SignedLaws.{le-parts, from-zero, over-whole, from-zero-whole, leZ-means}
-use Rattle.numbers.proofs.CheckLaws.{answered-accepted, answered-refused, both-first, both-second, both-assoc, both-pass, decides-unless, decides-from, decides-none, decides-then, every-means, count-decides}
+use Rattle.numbers.proofs.CheckLaws.{answered-accepted, answered-refused, both-first, both-second, decides-unless, decides-from, decides-none, decides-then, every-means, count-decides}
+use Rattle.numbers.proofs.ChainLaws.{refuse-with}
 use Rattle.caas.specs.declared.SplitAnswer.{SplitAnswer}
 use Rattle.caas.specs.declared.SplitAnswer.the-variants.{Done, Refused}
 use Rattle.caas.specs.Group.{Group, Splits, Divides, distance, sumIn}
 use Rattle.caas.specs.Split.{result, Proportional}
-use Rattle.caas.specs.Operation.{SplitCall, items, sumℤ, checkLengths, checkOrder, checkHighs, checkWeights, checkReach, shapeChecks, valueChecks, splitVerdict, Lengths, splitRules, SplitFits, itemGroup, splitMasses, splitTells, SplitContract, Divided, distanceOf, SplitFacts}
+use Rattle.caas.specs.Operation.{SplitCall, items, sumℤ, checkLengths, checkOrder, checkHighs, checkWeights, checkReach, splitShapeChecks, splitVerdict, Lengths, splitRules, SplitFits, itemGroup, splitMasses, splitTells, splitAnswer, SplitContract, Divided, distanceOf, SplitFacts}
 use Rattle.caas.proofs.SplitLaws.{result-divides, result-nearest, result-proportional}
 
 -- ---- each check, and the verdict
@@ -34,8 +34,8 @@ lengths-test : (n l h w m : ℕ) → (eqb l n && (eqb h n && (eqb w n && eqb m n
 lengths-test n l h w m = and-means (eq-means l n) (and-means (eq-means h n) (and-means (eq-means w n) (eq-means m n)))
 
 -- what 1 and 3 leave to the checks after them
-pub shape-passed : (n l h w m : ℕ) → shapeChecks n l h w m ≡ Pass → (n ≤ 512) × ((l ≡ n) × ((h ≡ n) × ((w ≡ n) × (m ≡ n))))
-unfolding shapeChecks checkLengths
+pub shape-passed : (n l h w m : ℕ) → first (splitShapeChecks n l h w m) ≡ Pass → (n ≤ 512) × ((l ≡ n) × ((h ≡ n) × ((w ≡ n) × (m ≡ n))))
+unfolding checkLengths
 shape-passed n l h w m e = (
   count-decides n .passes .0 (both-first (checkCount n) _ e) .1,
   decides-unless _ 3 (lengths-test n l h w m) .passes .0 (both-first _ Pass (both-second (checkCount n) _ e)),
@@ -72,35 +72,21 @@ module _ (c : SplitCall) where
       to : (length (c .lows) ≡ n) × ((length (c .highs) ≡ n) × ((length (c .weights) ≡ n) × (length (c .masses) ≡ n))) → Lengths c
       to h = record { lows = h .0; highs = h .1 .0; weights = h .1 .1 .0; masses = h .1 .1 .1 }
 
-  -- the verdict is the chain of the six checks
-  abbrev chain : Checked
-  chain =
-      first
-      (checkCount n
-      ∷ checkLengths n (length (c .lows)) (length (c .highs)) (length (c .weights)) (length (c .masses))
-      ∷ checkOrder n (c .lows) (c .highs)
-      ∷ checkHighs n (c .highs)
-      ∷ checkWeights n (c .weights)
-      ∷ checkReach n (c .lows) (c .highs) (c .total)
-      ∷ [])
-
-  verdict-chain : splitVerdict c ≡ chain
-  unfolding splitVerdict shapeChecks valueChecks
-  verdict-chain =
-      ap₂ both (ap (both (checkCount n)) (both-pass (checkLengths n (length (c .lows)) (length (c .highs)) (length (c .weights)) (length (c .masses))))) (both-pass _)
-      ∙ both-assoc (checkCount n) (checkLengths n (length (c .lows)) (length (c .highs)) (length (c .weights)) (length (c .masses))) _
-
   -- accepted if every rule holds; refused with a number at a place if those before it hold and this one is broken there
-  pub verdict-decides : Decides (splitVerdict c) (inOrder (splitRules c))
-  unfolding splitRules
+  pub verdict-decides : DecidesAll (splitVerdict c) (splitRules c)
+  unfolding splitVerdict splitRules
   verdict-decides =
-      subst (λ v. Decides v (inOrder (splitRules c))) (sym verdict-chain)
-      (decides-then _ _ _ _ (count-decides n)
+      decides-then _ _ _ _ (count-decides n)
       (decides-then _ _ _ _ lengths-decides
       (decides-then _ _ _ _ (order-decides n (c .lows) (c .highs))
       (decides-then _ _ _ _ (highs-decides n (c .highs))
       (decides-then _ _ _ _ (weights-decides n (c .weights))
-      (decides-then _ _ _ _ (reach-decides n (c .lows) (c .highs) (c .total)) decides-none))))))
+      (decides-then _ _ _ _ (reach-decides n (c .lows) (c .highs) (c .total)) decides-none)))))
+
+  -- the numbers that Split refuses with
+  pub split-numbers : RefuseWith (splitRules c) (1 ∷ 3 ∷ 5 ∷ 6 ∷ 7 ∷ 8 ∷ [])
+  unfolding splitRules
+  split-numbers = refuse-with (splitRules c) (1 ∷ 3 ∷ 5 ∷ 6 ∷ 7 ∷ 8 ∷ []) refl refl
 
   pub refuses : (number place : ℕ) → (splitVerdict c ≡ Fail number place) ↔ Broken (splitRules c) number place
   refuses = verdict-decides .fails
@@ -130,12 +116,13 @@ module _ (c : SplitCall) where
 -- ---- the answer
 
 -- what an answer tells is the answer
-pub tells-injective : (a b : SplitAnswer) → splitTells a ≡ splitTells b → a ≡ b
+answer-told : (a : SplitAnswer) → splitAnswer (splitTells a) ≡ a
 unfolding splitTells
-tells-injective Done Done e = refl
-tells-injective Done (Refused n p) e = let z : _≡_ {A = ℕ} 0 1 = cc in absurd (omega arith)
-tells-injective (Refused n p) Done e = let z : _≡_ {A = ℕ} 0 1 = cc in absurd (omega arith)
-tells-injective (Refused n p) (Refused m q) e = cc
+answer-told Done = refl
+answer-told (Refused number place) = refl
+
+pub tells-injective : (a b : SplitAnswer) → splitTells a ≡ splitTells b → a ≡ b
+tells-injective = injective splitAnswer answer-told
 
 -- ---- an accepted call
 

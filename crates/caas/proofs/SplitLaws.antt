@@ -1,16 +1,17 @@
 -- What holds of one split: the results add up to M, lie within the bounds, no division is nearer to the targets, and without weights
 -- each share is less than one unit from the published proportion (B2 to B5). Assumes nothing.
-use mathlib.Core.Path.{_≡_, refl, sym, _∙_, ap}
+use mathlib.Core.Path.{_≡_, refl, sym, _∙_, ap, ap₂}
 use mathlib.Core.Bool.{Bool, true, false}
-use Prim.Native.Nat.{ℕ, _+_, _-_, _*_, _≤_, _<_, min, max}
+use Prim.Native.Nat.{ℕ, zero, suc, _+_, _-_, _*_, _≤_, _<_, min, max}
 use native.Mathlib.Omega.{arith}
-use native.Mathlib.Nat.{add-assoc}
+use native.Mathlib.Nat.{add-assoc, zero-mul}
 use native.Mathlib.Decide.{decLe}
-use lib.IntN.{ℤ, pos, natAbs, _-ℤ_}
+use lib.IntN.{ℤ, pos, negℤ, natAbs, _-ℤ_, _*ℤ_}
 use Rattle.numbers.specs.Sums.{ℕ-adds, ℤ-adds}
 use Rattle.numbers.specs.Signed.{over, under, minℤ, gap}
-use Rattle.numbers.proofs.TestLaws.{clash}
-use Rattle.numbers.proofs.SignedLaws.{signed, over-min, over-max, minus-size, minus-up, minus-down, far-parts, over-whole, le-parts}
+use Rattle.numbers.specs.Roundings.{signed as withSign}
+use Rattle.numbers.proofs.TestLaws.{Tested, holds, fails, tested, clash}
+use Rattle.numbers.proofs.SignedLaws.{signed, one-part, neg-parts, minus-parts, abs-parts, parts-eq, ltZ-true, ltZ-false, over-min, over-max, minus-size, minus-up, minus-down, far-parts, over-whole, le-parts}
 use Rattle.caas.specs.Group.{Group, Each, Splits, Within, Divides, distance, sumIn}
 use Rattle.caas.specs.Split.{clip, clipped, deficit, surplus, room, capacity, moved, shares, result, portion, Proportional}
 use Rattle.caas.proofs.GroupLaws.{in-ext, in-le, in-add, in-pos, in-gap}
@@ -67,6 +68,35 @@ moved-gap false low high x s r = omega arith
 pub moved-back : (down : Bool) (low high x s : ℕ) → down ≡ true → s ≤ room down low high x → moved down x s + s ≡ x
 moved-back true low high x s e r = omega arith
 moved-back false low high x s e r = absurd (clash e refl)
+
+pub moved-shift : (down : Bool) (low high x s : ℕ) → s ≤ room down low high x → pos (moved down x s) -ℤ pos x ≡ withSign down s
+moved-shift true low high x s r = parts-eq (omega (arith, minus-parts (pos (x - s)) (pos x), neg-parts (pos s)))
+moved-shift false low high x s r = parts-eq (omega (arith, minus-parts (pos (x + s)) (pos x)))
+
+-- ---- numbers by sign and size
+
+by-sign : (z : ℤ) → z ≡ withSign (surplus z) (natAbs z)
+by-sign z = go (tested (surplus z))
+  where
+    go : Tested (surplus z) → z ≡ withSign (surplus z) (natAbs z)
+    go (holds e) = rw e (parts-eq (omega (signed, ltZ-true z (pos 0) e, one-part z, abs-parts z, neg-parts (pos (natAbs z)))))
+    go (fails e) = rw e (parts-eq (omega (signed, ltZ-false z (pos 0) e, one-part z, abs-parts z)))
+
+sign-times : (s : Bool) (a b : ℕ) → withSign s a *ℤ pos b ≡ withSign s (a * b)
+sign-times false a b = refl
+sign-times true zero b = rw (zero-mul b)
+sign-times true (suc a) b = refl
+
+-- two of one sign are as far apart as their sizes
+sign-far : (s : Bool) (a b : ℕ) → natAbs (withSign s a -ℤ withSign s b) ≡ gap a b
+sign-far false a b = minus-size a b
+sign-far true a b =
+    let x = negℤ (pos a) in
+    let y = negℤ (pos b) in
+    omega (arith, minus-parts x y, neg-parts (pos a), neg-parts (pos b), one-part (x -ℤ y), abs-parts (x -ℤ y))
+
+sign-gap : (s : Bool) (a b x y : ℕ) → natAbs (withSign s a *ℤ pos b -ℤ withSign s x *ℤ pos y) ≡ gap (a * b) (x * y)
+sign-gap s a b x y = ap₂ (λ p q. natAbs (p -ℤ q)) (sign-times s a b) (sign-times s x y) ∙ sign-far s (a * b) (x * y)
 
 module _ (G : Group) (M : ℕ) (can : Splits G M) where
   abbrev pub S : ℕ
@@ -184,18 +214,25 @@ module _ (G : Group) (M : ℕ) (can : Splits G M) where
 
   -- ---- the published proportion (B5)
 
+  -- a result differs from its clipped value by its shares, with the sign of d
+  result-shift : Each G (λ u. pos (result G M u) -ℤ pos (clipped G u) ≡ withSign (surplus (deficit G M)) (shares G M u))
+  unfolding result capacity
+  result-shift u l e = moved-shift (surplus (deficit G M)) (G .low u) (G .high u) (clipped G u) (shares G M u) (shares-cap u l e)
+
   pub result-proportional : sumIn ℕ-adds G (G .weight) ≡ 0 → Each G (λ u. Proportional G M (pos (result G M u)) u)
   result-proportional light u l e =
       record {
-        near = λ h. rw (shift, minus-size (shares G M u * sumIn ℕ-adds G cap) (D * cap u), is) (omega (arith, portion-near G cap D h u e));
+        near = λ h. rw (apart, is) (omega (arith, portion-near G cap D h u e));
         none = λ h. ap pos (omega (arith, result-gap u l e, is, portion-none G cap D u h));
       }
     where
       is : shares G M u ≡ portion G cap D u
       is = unfold shares in (unweighted G cap D light u)
 
-      shift : natAbs (pos (result G M u) -ℤ pos (clipped G u)) ≡ shares G M u
-      shift = minus-size (result G M u) (clipped G u) ∙ result-gap u l e
+      apart : natAbs ((pos (result G M u) -ℤ pos (clipped G u)) *ℤ pos (sumIn ℕ-adds G cap) -ℤ deficit G M *ℤ pos (cap u)) ≡ gap (shares G M u * sumIn ℕ-adds G cap) (D * cap u)
+      apart =
+          ap₂ (λ y d. natAbs (y *ℤ pos (sumIn ℕ-adds G cap) -ℤ d *ℤ pos (cap u))) (result-shift u l e) (by-sign (deficit G M))
+          ∙ sign-gap (surplus (deficit G M)) (shares G M u) (sumIn ℕ-adds G cap) D (cap u)
 
   -- ---- sizes, for the code: neither the clipped values nor the capacities add up to more than the highs
 

@@ -1,7 +1,7 @@
 -- The operation Split: what it is given, its checks in 01's order, its answer and the masses it leaves. Assumes nothing.
 use mathlib.Core.Path.{_≡_}
 use mathlib.Core.Bool.{Bool, true, _&&_}
-use mathlib.Core.List.{List, [], _∷_}
+use mathlib.Core.List.{List, [], _∷_, _++_}
 use Prim.Native.Nat.{ℕ, _≤_, _<_}
 use lib.Dec.{eqb}
 use lib.IntN.{ℤ, pos, natAbs, _-ℤ_}
@@ -63,20 +63,23 @@ checkWeights n weights = unless (everyFrom (λ u. leZ (pos 0) (atℤ weights u))
 unfoldable pub checkReach : ℕ → List ℤ → List ℤ → ℤ → Checked
 checkReach n lows highs total = unless (leZ (sumℤ n lows) total && leZ total (sumℤ n highs)) 8 0
 
--- 1 and 3, of lengths alone; then 5 to 8
-unfoldable pub shapeChecks : ℕ → ℕ → ℕ → ℕ → ℕ → Checked
-shapeChecks n lows highs weights masses = first (checkCount n ∷ checkLengths n lows highs weights masses ∷ [])
+-- 1 and 3, of lengths alone
+abbrev pub splitShapeChecks : (n lows highs weights masses : ℕ) → List Checked
+splitShapeChecks n lows highs weights masses = checkCount n ∷ checkLengths n lows highs weights masses ∷ []
 
-unfoldable pub valueChecks : ℕ → List ℤ → List ℤ → List ℤ → ℤ → Checked
-valueChecks n lows highs weights total =
-    first (checkOrder n lows highs ∷ checkHighs n highs ∷ checkWeights n weights ∷ checkReach n lows highs total ∷ [])
+-- 5 to 8
+abbrev pub splitValueChecks : ℕ → (lows highs weights : List ℤ) → ℤ → List Checked
+splitValueChecks n lows highs weights total =
+    checkOrder n lows highs ∷ checkHighs n highs ∷ checkWeights n weights ∷ checkReach n lows highs total ∷ []
+
+-- all of them, in 01's order
+abbrev pub splitChecks : SplitCall → List Checked
+splitChecks c =
+    splitShapeChecks (items c) (length (c .lows)) (length (c .highs)) (length (c .weights)) (length (c .masses))
+    ++ splitValueChecks (items c) (c .lows) (c .highs) (c .weights) (c .total)
 
 unfoldable pub splitVerdict : SplitCall → Checked
-splitVerdict c =
-    first
-    (shapeChecks (items c) (length (c .lows)) (length (c .highs)) (length (c .weights)) (length (c .masses))
-    ∷ valueChecks (items c) (c .lows) (c .highs) (c .weights) (c .total)
-    ∷ [])
+splitVerdict c = first (splitChecks c)
 
 -- ---- what the checks mean
 
@@ -128,10 +131,14 @@ itemGroup c =
 unfoldable pub splitMasses : SplitCall → List ℤ
 splitMasses c = listTo (items c) (λ u. pos (result (itemGroup c) (over (c .total)) u))
 
--- what an answer tells
+-- what an answer tells, and the answer that tells it
 unfoldable pub splitTells : SplitAnswer → Answered Unit
 splitTells Done = accepted tt
 splitTells (Refused number place) = refused number place
+
+abbrev pub splitAnswer : Answered Unit → SplitAnswer
+splitAnswer (accepted u) = Done
+splitAnswer (refused number place) = Refused number place
 
 -- the whole contract of the operation
 pub record SplitContract (c : SplitCall) (answer : SplitAnswer) (masses : List ℤ) : Type 0 where

@@ -3,7 +3,7 @@ use mathlib.Core.Path.{_≡_}
 use mathlib.Core.Bool.{Bool, true, false, cond}
 use Prim.Native.Nat.{ℕ, suc, _+_, _-_, _*_, _<_, min}
 use lib.Dec.{eqb}
-use lib.IntN.{ℤ, pos, natAbs, _-ℤ_}
+use lib.IntN.{ℤ, pos, natAbs, _-ℤ_, _*ℤ_}
 use lib.Signed.{ltZ}
 use Rattle.numbers.specs.Sums.{ℕ-adds}
 use Rattle.numbers.specs.Signed.{over, minℤ, maxℤ}
@@ -70,11 +70,15 @@ shares G M u =
 unfoldable pub result : Group → ℕ → ℕ → ℕ
 result G M u = moved (surplus (deficit G M)) (clipped G u) (shares G M u)
 
--- the published proportion: of a split by capacities alone, whose sum is C, an item's share is |d| × capacity ÷ C. A value y is less than one unit from it;
--- if C = 0 it is the clipped value
+-- the sum of the capacities: 01's C where all weights are 0
+abbrev pub allCapacity : Group → ℕ → ℕ
+allCapacity G M = sumIn ℕ-adds G (capacity G (deficit G M))
+
+-- the published proportion: in a split by capacities alone an item's share is d × capacity ÷ C, with the sign of d. The share of a value y is
+-- y minus the clipped value, and it is less than one unit from that: times C, it is less than C from d × capacity. If C = 0, y is the clipped
+-- value
 pub record Proportional (G : Group) (M : ℕ) (y : ℤ) (u : ℕ) : Type 0 where
   pub near :
-      0 < sumIn ℕ-adds G (capacity G (deficit G M))
-      → natAbs (pos (natAbs (y -ℤ pos (clipped G u)) * sumIn ℕ-adds G (capacity G (deficit G M))) -ℤ pos (natAbs (deficit G M) * capacity G (deficit G M) u))
-      < sumIn ℕ-adds G (capacity G (deficit G M))
-  pub none : sumIn ℕ-adds G (capacity G (deficit G M)) ≡ 0 → y ≡ pos (clipped G u)
+      0 < allCapacity G M
+      → natAbs ((y -ℤ pos (clipped G u)) *ℤ pos (allCapacity G M) -ℤ deficit G M *ℤ pos (capacity G (deficit G M) u)) < allCapacity G M
+  pub none : allCapacity G M ≡ 0 → y ≡ pos (clipped G u)

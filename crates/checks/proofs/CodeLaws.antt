@@ -11,27 +11,21 @@ use lib.Dec.{eqb, leb, ltb}
 use borrow.Author.Tests.{lt-ltb, le-ltb, le-leb, lt-leb, eq-eqb, ne-eqb}
 use lib.ListN.{length, set, replicate}
 use lib.Seq.{getD-set-same, getD-set-other}
-use Rattle.numbers.specs.declared.Checked.{Checked}
 use Rattle.numbers.specs.declared.Checked.the-variants.{Pass}
 use Rattle.numbers.specs.Sums.{ℕ-adds, sumTo}
-use Rattle.numbers.specs.Lists.{at}
+use Rattle.numbers.specs.Lists.{at, sum}
 use Rattle.numbers.specs.Checks.{unless, both, checkLength}
-use Rattle.numbers.proofs.CheckLaws.{unless-and}
-use Rattle.columns.specs.Columns.{width}
+use Rattle.numbers.proofs.CheckLaws.{then-length}
 use Rattle.qlt.specs.Tree.{childOf, anyChild, parentOk, nodeOk}
-use Rattle.qlt.specs.Field.{Lists, cells, field, outcome}
-use Rattle.qlt.specs.Checks.{sum, checkLists, shapeOf}
-use Rattle.qlt.proofs.CheckLaws.{shape-passed}
-use Rattle.checks.specs.Lists.{Sized, Marks, outcomeBy}
+use Rattle.qlt.specs.Field.{Lists, cells, scratchPerNode, field, outcomeBy, outcome}
+use Rattle.qlt.specs.Checks.{checkLists, shapeOf}
+use Rattle.qlt.proofs.CheckLaws.{shape-fits}
+use Rattle.checks.specs.Lists.{Sized, Marks}
 
 -- ---- 1 to 3
 
-then-length : (k n : ℕ) (b : Bool) (v : Checked) → v ≡ unless b 3 0 → both (checkLength k n) v ≡ unless (eqb k n && b) 3 0
-unfolding checkLength
-then-length k n b v e = ap (both (unless (eqb k n) 3 0)) e ∙ unless-and (eqb k n) b 3 0
-
 -- checks with one number and place, one after another, are one check
-pub lists-is : (n m k l h sl sh w s : ℕ) → both (checkLength k n) (both (checkLength l n) (both (checkLength h n) (both (checkLength sl n) (both (checkLength sh n) (both (checkLength w n) (unless (leb (width * m) s) 3 0)))))) ≡ checkLists n m k l h sl sh w s
+pub lists-is : (n m k l h sl sh w s : ℕ) → both (checkLength k n) (both (checkLength l n) (both (checkLength h n) (both (checkLength sl n) (both (checkLength sh n) (both (checkLength w n) (unless (leb (scratchPerNode * m) s) 3 0)))))) ≡ checkLists n m k l h sl sh w s
 unfolding checkLists
 lists-is n m k l h sl sh w s =
     then-length k n _ _ (then-length l n _ _ (then-length h n _ _ (then-length sl n _ _ (then-length sh n _ _ (then-length w n _ _ refl)))))
@@ -39,9 +33,9 @@ lists-is n m k l h sl sh w s =
 -- what 1 to 3 have shown, for the checks after them
 pub sized : (f : Lists) (k s : ℕ) → shapeOf k f s ≡ Pass → Sized f
 sized f k s e =
-    let p = shape-passed f k s e in
-    let l = p .1 .1 in
-    record { few = p .0 .1; nodes-few = p .1 .0 .1; lows = l .lows; highs = l .highs; safeLows = l .safeLows; safeHighs = l .safeHighs; weights = l .weights }
+    let p = shape-fits f k s .0 e in
+    let l = p .lengths in
+    record { few = p .few; nodes-few = p .nodes-few; lows = l .lows; highs = l .highs; safeLows = l .safeLows; safeHighs = l .safeHighs; weights = l .weights }
 
 -- ---- 4: the marks
 

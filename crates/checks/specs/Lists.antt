@@ -1,13 +1,12 @@
--- What the checks of values ask of the lists, the marks of the nodes that have a child, and the outcome by two sums. Assumes nothing.
+-- What the checks of values ask of the lists, and the marks of the nodes that have a child. Assumes nothing.
 use mathlib.Core.Path.{_≡_}
-use mathlib.Core.Bool.{cond}
 use mathlib.Core.List.{List}
 use Prim.Native.Nat.{ℕ, _≤_, _<_}
-use lib.Dec.{eqb, ltb}
+use lib.Dec.{eqb}
 use lib.ListN.{length}
 use Rattle.numbers.specs.Lists.{at}
 use Rattle.qlt.specs.Tree.{anyChild}
-use Rattle.qlt.specs.Field.{Lists, cells, nodes, Outcome, attainable, below, above}
+use Rattle.qlt.specs.Field.{Lists, cells, nodes}
 
 -- the lengths that 1 to 3 have shown
 pub record Sized (f : Lists) : Type 0 where
@@ -22,7 +21,3 @@ pub record Sized (f : Lists) : Type 0 where
 -- the marks, 1 or not, are those of the nodes that have a child among the first k
 pub record Marks (up : ℕ → ℕ) (k : ℕ) (seen : List ℕ) : Type 0 where
   pub each : (v : ℕ) → v < length seen → eqb (at seen v) 1 ≡ anyChild up k v
-
--- the outcome by the sums of lows and highs
-abbrev pub outcomeBy : (low high M : ℕ) → Outcome
-outcomeBy low high M = cond (ltb M low) below (cond (ltb high M) above attainable)

@@ -5,73 +5,35 @@ ghost use mathlib.Core.Bool.{_&&_, _||_};
 ghost use Prim.Native.Nat.{ℕ, _*_, _^_, _≤_, _<_};
 ghost use lib.Dec.{eqb, leb, ltb};
 ghost use lib.ListN.{length};
-ghost use Rattle.numbers.specs.Lists.{at};
-ghost use Rattle.numbers.specs.Checks.{unless, both};
-ghost use Rattle.columns.specs.Columns.{width};
+ghost use Rattle.numbers.specs.Lists.{at, sum};
+ghost use Rattle.numbers.specs.Checks.{unless};
 ghost use Rattle.qlt.specs.Tree.{childOf, parentOk};
-ghost use Rattle.qlt.specs.Field.{lists, number};
-ghost use Rattle.qlt.specs.Checks.{sum, checkNodes, checkLists, checkTree, boundsOrdered, checkOrder, checkSum, checkReach, shapeChecks, shapeOf, valueChecks};
-ghost use Rattle.checks.specs.Lists.{Marks, Sized, outcomeBy};
-use columns::WIDTH;
+ghost use Rattle.qlt.specs.Field.{lists, scratchPerNode, outcomeBy, number};
+ghost use Rattle.qlt.specs.Checks.{checkNodes, checkLists, checkTree, boundsOrdered, checkOrder, checkSum, checkReach, checkShape, checkValues};
+ghost use Rattle.checks.specs.Lists.{Marks, Sized};
 use numbers::Checked;
+use numbers::inner::and;
 use numbers::inner::check_count;
 use numbers::inner::check_length;
 use numbers::inner::fail_at;
+use numbers::inner::sum_of;
 use numbers::inner::then;
-
-// An element of a list, with room to add up.
-fn value_at(xs: &[u32], i: usize) -> u64
-    requires { ⌜ i < length (now xs) ⌝ }
-    ensures { λ r. ⌜ (r ≡ at (now (xs .entry)) i) × (r < 2 ^ 32) ⌝ }
-{
-    xs[i] as u64
-}
-
-// The sum of a list.
-pub fn sum_of(xs: &[u32]) -> u64
-    requires { ⌜ length (now xs) ≤ 1024 ⌝ }
-    ensures { λ r. ⌜ (r ≡ sum (now (xs .entry))) × (r < 2 ^ 42) ⌝ }
-{
-    let mut sum: u64 = 0;
-    let mut i: usize = 0;
-    while i < xs.len() {
-        sum += value_at(xs, i);
-        i += 1;
-    }
-    sum
-}
+use numbers::inner::unless;
+use qlt::SCRATCH_PER_NODE;
 
 // 2: the number of nodes is at least that of cells, and at most 1024.
 pub fn check_nodes(n: usize, m: usize) -> Checked
     ensures { λ r. ⌜ r ≡ checkNodes n m ⌝ }
 {
-    if m < n {
-        return Checked::Fail {
-            number: 2,
-            place: 0,
-        };
-    }
-    if 1024 < m {
-        return Checked::Fail {
-            number: 2,
-            place: 0,
-        };
-    }
-    Checked::Pass
+    unless(and(n <= m, m <= 1024), 2, 0)
 }
 
-// 3: the scratch has a row for each node.
+// 3: the scratch has its numbers for each node.
 fn check_scratch(m: usize, scratch: usize) -> Checked
     requires { ⌜ m ≤ 1024 ⌝ }
-    ensures { λ r. ⌜ r ≡ unless (leb (width * m) scratch) 3 0 ⌝ }
+    ensures { λ r. ⌜ r ≡ unless (leb (scratchPerNode * m) scratch) 3 0 ⌝ }
 {
-    if scratch < WIDTH * m {
-        return Checked::Fail {
-            number: 3,
-            place: 0,
-        };
-    }
-    Checked::Pass
+    unless(SCRATCH_PER_NODE * m <= scratch, 3, 0)
 }
 
 // 3: lists of other lengths, or too short a scratch.
@@ -108,7 +70,7 @@ fn check_lists(
 }
 
 // 1 to 3: of lengths alone.
-pub fn shape_checks(
+pub fn check_shape(
     n: usize,
     m: usize,
     masses: usize,
@@ -119,7 +81,7 @@ pub fn shape_checks(
     weights: usize,
     scratch: usize,
 ) -> Checked
-    ensures { λ r. ⌜ r ≡ shapeChecks n m masses lows highs «safe_lows» «safe_highs» weights scratch ⌝ }
+    ensures { λ r. ⌜ r ≡ checkShape n m masses lows highs «safe_lows» «safe_highs» weights scratch ⌝ }
 {
     let count = check_count(n);
     if let Checked::Fail { number, place } = count {
@@ -223,7 +185,7 @@ fn first_bad(parents: &[u32], n: usize, seen: &[u8]) -> Checked
 }
 
 // 4: the smallest node that breaks a rule of the tree.
-fn check_tree(parents: &[u32], n: usize) -> Checked
+pub fn check_tree(parents: &[u32], n: usize) -> Checked
     requires { ⌜ length (now parents) ≤ 1024 ⌝ }
     ensures { λ r. ⌜ r ≡ checkTree n (now (parents .entry)) ⌝ }
 {
@@ -259,11 +221,7 @@ fn check_sum(number: u32, xs: &[u32]) -> Checked
     requires { ⌜ length (now xs) ≤ 1024 ⌝ }
     ensures { λ r. ⌜ r ≡ checkSum number (now (xs .entry)) ⌝ }
 {
-    let sum = sum_of(xs);
-    if sum <= 2147483647 {
-        return Checked::Pass;
-    }
-    Checked::Fail { number, place: 0 }
+    unless(sum_of(xs) <= 2147483647, number, 0)
 }
 
 // 8: the total outside the sums of safe lows and safe highs.
@@ -273,23 +231,11 @@ pub fn check_reach(safe_lows: &[u32], safe_highs: &[u32], total: u32) -> Checked
 {
     let least = sum_of(safe_lows);
     let most = sum_of(safe_highs);
-    if (total as u64) < least {
-        return Checked::Fail {
-            number: 8,
-            place: 0,
-        };
-    }
-    if most < total as u64 {
-        return Checked::Fail {
-            number: 8,
-            place: 0,
-        };
-    }
-    Checked::Pass
+    unless(and(least <= total as u64, total as u64 <= most), 8, 0)
 }
 
 // 4 to 7: of lists whose lengths are right.
-pub fn value_checks(
+pub fn check_values(
     targets: &[i32],
     lows: &[u32],
     highs: &[u32],
@@ -299,7 +245,7 @@ pub fn value_checks(
     parents: &[u32],
 ) -> Checked
     requires { ⌜ Sized (lists (now targets) (now lows) (now highs) (now «safe_lows») (now «safe_highs») (now weights) (now parents)) ⌝ }
-    ensures { λ r. ⌜ r ≡ valueChecks (lists (now (targets .entry)) (now (lows .entry)) (now (highs .entry)) (now («safe_lows» .entry)) (now («safe_highs» .entry)) (now (weights .entry)) (now (parents .entry))) ⌝ }
+    ensures { λ r. ⌜ r ≡ checkValues (lists (now (targets .entry)) (now (lows .entry)) (now (highs .entry)) (now («safe_lows» .entry)) (now («safe_highs» .entry)) (now (weights .entry)) (now (parents .entry))) ⌝ }
 {
     let tree = check_tree(parents, targets.len());
     if let Checked::Fail { number, place } = tree {
@@ -314,45 +260,6 @@ pub fn value_checks(
         return Checked::Fail { number, place };
     }
     check_sum(7, weights)
-}
-
-// 1 to 7, in 01's order.
-pub fn field_checks(
-    masses: usize,
-    targets: &[i32],
-    lows: &[u32],
-    highs: &[u32],
-    safe_lows: &[u32],
-    safe_highs: &[u32],
-    weights: &[u32],
-    parents: &[u32],
-    scratch: usize,
-) -> Checked
-    ensures { λ r. ⌜ r ≡ both (shapeOf masses (lists (now (targets .entry)) (now (lows .entry)) (now (highs .entry)) (now («safe_lows» .entry)) (now («safe_highs» .entry)) (now (weights .entry)) (now (parents .entry))) scratch) (valueChecks (lists (now (targets .entry)) (now (lows .entry)) (now (highs .entry)) (now («safe_lows» .entry)) (now («safe_highs» .entry)) (now (weights .entry)) (now (parents .entry)))) ⌝ }
-{
-    let shape = shape_checks(
-        targets.len(),
-        parents.len(),
-        masses,
-        lows.len(),
-        highs.len(),
-        safe_lows.len(),
-        safe_highs.len(),
-        weights.len(),
-        scratch,
-    );
-    if let Checked::Fail { number, place } = shape {
-        return Checked::Fail { number, place };
-    }
-    value_checks(
-        targets,
-        lows,
-        highs,
-        safe_lows,
-        safe_highs,
-        weights,
-        parents,
-    )
 }
 
 // 01's outcome: 0 if the total lies between the sums of lows and highs, 1 if it is less, 2 if it is more.

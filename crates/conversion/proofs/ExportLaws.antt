@@ -1,27 +1,29 @@
 -- What Export's verdict means, that an answer tells its verdict and its double and nothing else, that the double is exact and no other
 -- double is, and that an answer of the right verdict and double keeps the contract. Assumes nothing.
-use mathlib.Core.Path.{_≡_, sym, _∙_, ap, subst}
+use mathlib.Core.Path.{_≡_, refl, sym, _∙_, ap, subst}
 use mathlib.Core.Logic.{_↔_}
 use mathlib.Core.Bool.{Bool, false, cond}
-use Prim.Native.Nat.{ℕ, _+_, _-_, _*_, _/_, _^_, _≤_}
-use native.Mathlib.Nat.{mul-assoc, mul-div-cancel}
+use mathlib.Core.List.{[], _∷_}
+use Prim.Native.Nat.{ℕ, _+_, _-_, _*_, _/_, _^_, _≤_, _<_}
+use native.Mathlib.Nat.{mul-assoc, mul-div-cancel, zero-lt-suc, lt-of-lt-of-le}
 use native.Mathlib.Omega.{arith}
 use lib.IntN.{pos}
-use lib.Dec.{T}
-use lib.Pow.{pow-add, pow-pos}
-use lib.Ieee.{Float, nan, inf, fin, Format, binary64, prec, low, hid, top, up, down, size, fits, toBits, ofBits}
+use lib.Dec.{T, lit≤}
+use lib.Pow.{pow-add, pow-pos, pow-mono, shl-lt}
+use lib.Ieee.{Float, nan, inf, fin, Format, binary64, prec, low, hid, top, up, down, size, fits, toBits, ofBits, round}
 use lib.Ieee.Fits.{down-pos, round-fits}
-use lib.Ieee.Exact.{HasValue}
+use lib.Ieee.Exact.{HasValue, round-exact}
+use lib.Ieee.Scale.{round-same}
 use lib.Ieee.Bits.{ofBits-toBits}
 use Rattle.numbers.specs.declared.Checked.the-variants.{Pass, Fail}
-use Rattle.numbers.specs.Checks.{answered, Decides, rule, inOrder, Holds, Broken, maxTotal}
-use Rattle.numbers.proofs.TestLaws.{le-means}
-use Rattle.numbers.proofs.CheckLaws.{answered-accepted, decides-unless, decides-then, decides-none}
-use Rattle.conversion.specs.Export.{checkMass, exportVerdict, exportRules, ExportFits, exportDouble, exportTells, Exact, ExportContract}
+use Rattle.numbers.specs.Checks.{answered, Decides, rule, Holds, Broken, maxTotal, DecidesAll, RefuseWith}
+use Rattle.numbers.proofs.TestLaws.{le-means, injective}
+use Rattle.numbers.proofs.CheckLaws.{answered-accepted, decides-unless, decides-then, decides-none, scale-decides}
+use Rattle.numbers.proofs.ChainLaws.{refuse-with}
+use Rattle.conversion.specs.Export.{checkMass, exportVerdict, exportRules, ExportFits, exportDouble, exportTells, exportAnswer, Exact, ExportContract}
 use Rattle.conversion.specs.declared.Exported.{Exported}
 use Rattle.conversion.specs.declared.Exported.the-variants.{Double, Refused}
-use Rattle.conversion.proofs.ImportLaws.{scale-decides}
-use Rattle.conversion.proofs.Powers.{rescale, double-exact, double-zero}
+use Rattle.conversion.proofs.Powers.{rescale}
 
 -- ---- the verdict
 
@@ -31,7 +33,7 @@ mass-decides mass = decides-unless _ 11 (le-means mass maxTotal)
 
 module _ (mass k : ℕ) where
   -- accepted if both rules hold; refused with a number if those before it hold and this one is broken
-  pub export-decides : Decides (exportVerdict mass k) (inOrder (exportRules mass k))
+  pub export-decides : DecidesAll (exportVerdict mass k) (exportRules mass k)
   unfolding exportVerdict exportRules
   export-decides = decides-then _ _ _ _ (scale-decides k) (decides-then _ _ _ _ (mass-decides mass) decides-none)
 
@@ -45,25 +47,48 @@ module _ (mass k : ℕ) where
   pub export-refuses : (number place : ℕ) → (exportVerdict mass k ≡ Fail number place) ↔ Broken (exportRules mass k) number place
   export-refuses = export-decides .fails
 
+  -- the numbers that it refuses with
+  pub export-numbers : RefuseWith (exportRules mass k) (9 ∷ 11 ∷ [])
+  unfolding exportRules
+  export-numbers = refuse-with (exportRules mass k) (9 ∷ 11 ∷ []) refl refl
+
 -- ---- the answer
 
 -- what an answer tells is the answer
-pub export-tells-injective : (a b : Exported) → exportTells a ≡ exportTells b → a ≡ b
+told-back : (a : Exported) → exportAnswer (exportTells a) ≡ a
 unfolding exportTells
-export-tells-injective (Double x) (Double y) e = cc
-export-tells-injective (Double x) (Refused n p) e = let z : _≡_ {A = ℕ} 0 1 = cc in absurd (omega arith)
-export-tells-injective (Refused n p) (Double x) e = let z : _≡_ {A = ℕ} 0 1 = cc in absurd (omega arith)
-export-tells-injective (Refused n p) (Refused m q) e = cc
+told-back (Double x) = refl
+told-back (Refused number place) = refl
+
+pub export-tells-injective : (a b : Exported) → exportTells a ≡ exportTells b → a ≡ b
+export-tells-injective = injective exportAnswer told-back
 
 -- ---- the double
 
+-- it is a multiple of 2 ^ −1074
+places : (k : ℕ) → k ≤ 30 → 1074 - k + k ≡ 1074
+places k h = omega arith
+
 -- of an accepted mass and scale it is exact
 pub export-exact : {mass k : ℕ} → ExportFits mass k → Exact mass k (exportDouble mass k)
-export-exact {mass} {k} f = double-exact k mass (f .scale) (omega (arith, f .small))
+unfolding exportDouble
+export-exact {mass} {k} f =
+    let j = 1074 - k in
+    let h : mass < 2 ^ 31 = omega (arith, f .small) in
+    round-exact binary64 false mass (2 ^ k) mass j (pow-pos k) (lt-of-lt-of-le h (lit≤ tt))
+    (lt-of-lt-of-le (shl-lt 31 j h) (pow-mono (room k)))
+    (ap (λ (x : ℕ). mass * 2 ^ x) (sym (places k (f .scale))) ∙ ap (λ (x : ℕ). mass * x) (pow-add 2 j k) ∙ sym (mul-assoc mass (2 ^ j) (2 ^ k)))
+  where
+    room : (k : ℕ) → 31 + (1074 - k) ≤ 2098
+    room k = omega arith
 
 -- of mass 0 it is plus zero
 pub export-zero : (k : ℕ) → exportDouble 0 k ≡ fin false 0 (pos 0)
-export-zero k = double-zero k
+unfolding exportDouble round
+export-zero k = round-same binary64 false 0 (2 ^ k) 0 1 (pow-pos k) (zero-lt-suc 0) (nothing (2 ^ k))
+  where
+    nothing : (p : ℕ) → 0 * 1 ≡ 0 * p
+    nothing p = omega arith
 
 -- two doubles that a format holds and that are the same number with the same sign are equal
 module _ (f : Format) (s : Bool) (a : ℕ) where
@@ -87,14 +112,11 @@ export-unique {mass} {k} f x F v =
     double-fits : T (fits binary64 (exportDouble mass k))
     double-fits = unfold exportDouble in (round-fits binary64 false mass (2 ^ k))
 
-    places : k ≤ 30 → 1074 - k + k ≡ 1074
-    places h = omega arith
-
     -- the same fraction over 2 ^ 1074
     at-unit : (y : Float) → Exact mass k y → HasValue y false (mass * 2 ^ (1074 - k)) (2 ^ 1074)
     at-unit y w =
         rescale y false mass (2 ^ k) (mass * 2 ^ (1074 - k)) (2 ^ 1074) (pow-pos k)
-        (mul-assoc mass (2 ^ (1074 - k)) (2 ^ k) ∙ ap (λ (z : ℕ). mass * z) (sym (pow-add 2 (1074 - k) k) ∙ ap (λ (z : ℕ). 2 ^ z) (places (f .scale))))
+        (mul-assoc mass (2 ^ (1074 - k)) (2 ^ k) ∙ ap (λ (z : ℕ). mass * z) (sym (pow-add 2 (1074 - k) k) ∙ ap (λ (z : ℕ). 2 ^ z) (places k (f .scale))))
         w
 
 -- ---- the contract

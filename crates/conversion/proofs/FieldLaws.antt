@@ -1,26 +1,26 @@
 -- The three roundings, each from what `product` gives: the sign, the whole part cut at 2 ^ 52, and what is left. Assumes nothing.
 use mathlib.Core.Path.{_≡_, refl, sym, ap, _∙_, subst}
-use mathlib.Core.Bool.{Bool, true, false, not, cond}
+use mathlib.Core.Bool.{Bool, true, false, cond}
 use Prim.Native.Nat.{ℕ, zero, suc, _+_, _-_, _*_, _/_, _%_, _^_, _≤_, _<_, min, compare, Ordering, Ordering·lt, Ordering·eq, Ordering·gt}
 use mir.Syntax.{w32}
 use mir.Val.{SFits, toZ, ofZ}
 use mir.ValLaws.{toZ-pos, toZ-ofZ}
-use native.Mathlib.Nat.{zero-add, add-zero}
+use native.Mathlib.Nat.{zero-add, add-zero, min-eq-left, le-of-lt}
 use native.Mathlib.Numerals.{add-one}
 use native.Mathlib.Omega.{arith}
 use lib.IntN.{ℤ, pos, negsuc, _-ℤ_}
-use lib.Dec.{T, leb, ltb, eqb, ltb→lt, nltb→le, eqb→eq}
+use lib.Dec.{T, leb, ltb, eqb, eqb→eq}
 use lib.Ieee.{Float, nan, inf, fin, up, down, nearest}
 use lib.Ieee.Fits.{down-pos}
 use lib.Ieee.Nearest.{closest}
-use borrow.Author.Tests.{lt-ltb, le-ltb, le-leb, lt-leb, ne-eqb}
-use Rattle.conversion.specs.Roundings.{signed, roundUp, roundDown, roundNearest}
-use Rattle.conversion.specs.Forms.{restAt, restOf, fraction, product, lowField, highField, targetField, inBound, inTarget}
+use borrow.Author.Tests.{ltb-true, ltb-false, leb-true, lt-ltb, le-ltb, ne-eqb}
+use Rattle.numbers.specs.Roundings.{signed, roundUp, roundDown, roundNearest}
+use Rattle.conversion.specs.Forms.{restAt, restOf, fraction, product, fieldBy, lowField, highField, targetField, inBound, inTarget}
 use Rattle.conversion.specs.declared.Product.{Product}
 use Rattle.conversion.specs.declared.Product.the-variants.{Finite, NotFinite}
 use Rattle.conversion.specs.declared.BoundField.{BoundField}
 use Rattle.conversion.specs.declared.TargetField.{TargetField}
-use Rattle.conversion.proofs.Fractions.{compare-is}
+use Rattle.numbers.proofs.TestLaws.{Tested, holds, fails, tested, compare-is}
 
 -- ---- the roundings of a product
 abbrev pub lowFrom : Product → BoundField
@@ -41,47 +41,57 @@ abbrev pub targetFrom : Product → TargetField
 targetFrom (Finite s w r) = cond (leb (2 ^ 32) w) (TargetField.Bad 11) (inTarget (signed s (w + more w r)))
 targetFrom NotFinite = TargetField.Bad 10
 
--- ---- the ranges
-pub bound-in : (n : ℕ) → n < 2 ^ 31 → inBound (pos n) ≡ BoundField.Units n
-bound-in n h = ap (λ (b : Bool). cond b (BoundField.Units n) (BoundField.Bad 11)) (lt-ltb n (2 ^ 31) h)
+-- ---- the ranges: below 2 ^ 31, or not
+module _ {F : Type 0} (n : ℕ) (units bad : F) where
+  pub in-range : n < 2 ^ 31 → cond (ltb n (2 ^ 31)) units bad ≡ units
+  in-range h = ap (λ (b : Bool). cond b units bad) (lt-ltb n (2 ^ 31) h)
 
-pub bound-out : (n : ℕ) → 2 ^ 31 ≤ n → inBound (pos n) ≡ BoundField.Bad 11
-bound-out n h = ap (λ (b : Bool). cond b (BoundField.Units n) (BoundField.Bad 11)) (le-ltb n (2 ^ 31) h)
-
-pub target-in : (n : ℕ) → n < 2 ^ 31 → inTarget (pos n) ≡ TargetField.Units (pos n)
-target-in n h = ap (λ (b : Bool). cond b (TargetField.Units (pos n)) (TargetField.Bad 11)) (lt-ltb n (2 ^ 31) h)
-
-pub target-out : (n : ℕ) → 2 ^ 31 ≤ n → inTarget (pos n) ≡ TargetField.Bad 11
-target-out n h = ap (λ (b : Bool). cond b (TargetField.Units (pos n)) (TargetField.Bad 11)) (le-ltb n (2 ^ 31) h)
-
-pub minus-in : (n : ℕ) → n < 2 ^ 31 → inTarget (negsuc n) ≡ TargetField.Units (negsuc n)
-minus-in n h = ap (λ (b : Bool). cond b (TargetField.Units (negsuc n)) (TargetField.Bad 11)) (lt-ltb n (2 ^ 31) h)
-
-pub minus-out : (n : ℕ) → 2 ^ 31 ≤ n → inTarget (negsuc n) ≡ TargetField.Bad 11
-minus-out n h = ap (λ (b : Bool). cond b (TargetField.Units (negsuc n)) (TargetField.Bad 11)) (le-ltb n (2 ^ 31) h)
+  pub out-of-range : 2 ^ 31 ≤ n → cond (ltb n (2 ^ 31)) units bad ≡ bad
+  out-of-range h = ap (λ (b : Bool). cond b units bad) (le-ltb n (2 ^ 31) h)
 
 -- a target of a size above 2 ^ 31 is out of range, whatever its sign
 far-out : (s : Bool) (n : ℕ) → 2 ^ 31 < n → inTarget (signed s n) ≡ TargetField.Bad 11
-far-out false n h = target-out n (omega arith)
+far-out false n h = out-of-range n (TargetField.Units (pos n)) (TargetField.Bad 11) (omega arith)
 far-out true zero h = absurd (omega arith)
-far-out true (suc n) h = minus-out n (omega arith)
+far-out true (suc n) h = out-of-range n (TargetField.Units (negsuc n)) (TargetField.Bad 11) (omega arith)
 
--- ---- low: up
-low-minus : (q : ℕ) → inBound (signed true q) ≡ cond (eqb (min q (2 ^ 52)) 0) (BoundField.Units 0) (BoundField.Bad 11)
-low-minus zero = refl
-low-minus (suc n) = sym (ap (λ (b : Bool). cond b (BoundField.Units 0) (BoundField.Bad 11)) (ne-eqb (min (suc n) (2 ^ 52)) 0 (λ e. omega arith)))
+-- ---- what is bad from a limit on: the whole part may be cut above the limit, and tested against it first
+module _ {F : Type 0} (f : ℕ → F) (bad : F) (limit : ℕ) (past : (q : ℕ) → limit ≤ q → f q ≡ bad) where
+  cut : limit ≤ 2 ^ 52 → (q : ℕ) → f q ≡ f (min q (2 ^ 52))
+  cut l q = go (tested (ltb q (2 ^ 52)))
+    where
+      go : Tested (ltb q (2 ^ 52)) → f q ≡ f (min q (2 ^ 52))
+      go (holds h) = ap f (sym (min-eq-left (le-of-lt (ltb-true q (2 ^ 52) h))))
+      go (fails h) =
+          let a : 2 ^ 52 ≤ q = ltb-false q (2 ^ 52) h in
+          past q (omega arith) ∙ sym (past (min q (2 ^ 52)) (omega arith))
 
-low-plus : (q d : ℕ) → inBound (pos (q + d)) ≡ cond (leb (2 ^ 31) (min q (2 ^ 52))) (BoundField.Bad 11) (inBound (pos (min q (2 ^ 52) + d)))
-low-plus q d = go (ltb q (2 ^ 31)) (ltb→lt q (2 ^ 31)) (nltb→le q (2 ^ 31))
+  tested-first : (q : ℕ) → f q ≡ cond (leb limit q) bad (f q)
+  tested-first q = go (tested (leb limit q))
+    where
+      go : Tested (leb limit q) → f q ≡ cond (leb limit q) bad (f q)
+      go (holds h) = rw h (past q (leb-true limit q h))
+      go (fails h) = rw h
+
+-- ---- a field by its product, if its rounding is what `from` says of a fraction
+by-product : {F : Type 0} (inRange : ℤ → F) (rounding : Bool → ℕ → ℕ → ℤ) (from : Product → F) → ((s : Bool) (a b : ℕ) → 0 < b → inRange (rounding s a b) ≡ from (fraction s a b))
+    → (k : ℕ) (x : Float) → fieldBy (from NotFinite) inRange rounding k x ≡ from (product k x)
+by-product inRange rounding from h k nan = refl
+by-product inRange rounding from h k (inf s) = refl
+by-product inRange rounding from h k (fin s m e) = h s (m * up e * 2 ^ k) (down e) (down-pos e)
+
+-- ---- the bounds
+past-bound : (q : ℕ) → 2 ^ 31 ≤ q → inBound (pos q) ≡ BoundField.Bad 11
+past-bound q h = out-of-range q (BoundField.Units q) (BoundField.Bad 11) h
+
+-- below 0 a bound is out of range
+minus-bound : (q d : ℕ) → inBound (signed true (q + d)) ≡ cond (eqb (min q (2 ^ 52)) 0) (inBound (signed true d)) (BoundField.Bad 11)
+minus-bound zero d = ap (λ (z : ℕ). inBound (signed true z)) (zero-add d)
+minus-bound (suc n) d =
+    ap (λ (z : ℕ). inBound (signed true z)) (up-one n d) ∙ sym (ap (λ (b : Bool). cond b (inBound (signed true d)) (BoundField.Bad 11)) (ne-eqb (min (suc n) (2 ^ 52)) 0 (λ e. omega arith)))
   where
-    go : (b : Bool) → (T b → q < 2 ^ 31) → (T (not b) → 2 ^ 31 ≤ q) → inBound (pos (q + d)) ≡ cond (leb (2 ^ 31) (min q (2 ^ 52))) (BoundField.Bad 11) (inBound (pos (min q (2 ^ 52) + d)))
-    go true h k =
-        let l : q < 2 ^ 31 = h tt in
-        let e : min q (2 ^ 52) ≡ q = omega arith in
-        sym (ap (λ (w : ℕ). cond (leb (2 ^ 31) w) (BoundField.Bad 11) (inBound (pos (w + d)))) e ∙ ap (λ (b : Bool). cond b (BoundField.Bad 11) (inBound (pos (q + d)))) (lt-leb (2 ^ 31) q l))
-    go false h k =
-        let l : 2 ^ 31 ≤ q = k tt in
-        bound-out (q + d) (omega arith) ∙ sym (ap (λ (b : Bool). cond b (BoundField.Bad 11) (inBound (pos (min q (2 ^ 52) + d)))) (le-leb (2 ^ 31) (min q (2 ^ 52)) (omega arith)))
+    up-one : (n d : ℕ) → suc n + d ≡ suc (n + d)
+    up-one n d = omega arith
 
 rest-none : (t : Bool) (o : Ordering) → eqb (restAt t o) 0 ≡ t
 rest-none true o = refl
@@ -89,51 +99,45 @@ rest-none false Ordering·lt = refl
 rest-none false Ordering·eq = refl
 rest-none false Ordering·gt = refl
 
-low-fraction : (s : Bool) (a b : ℕ) → inBound (roundUp s a b) ≡ lowFrom (fraction s a b)
-low-fraction true a b = low-minus (a / b)
-low-fraction false a b =
-    low-plus (a / b) (cond (eqb (a % b) 0) 0 1)
-    ∙ ap (λ (t : Bool). cond (leb (2 ^ 31) (min (a / b) (2 ^ 52))) (BoundField.Bad 11) (inBound (pos (min (a / b) (2 ^ 52) + cond t 0 1)))) (sym (rest-none (eqb (a % b) 0) (compare (a % b * 2) b)))
+-- what a rounding adds to the whole part, by the remainder and by what is left
+abbrev one : Bool → ℕ
+one none = cond none 0 1
+
+added : (a b : ℕ) → one (eqb (a % b) 0) ≡ one (eqb (restOf a b) 0)
+added a b = ap one (sym (rest-none (eqb (a % b) 0) (compare (a % b * 2) b)))
+
+-- low: up
+low-fraction : (s : Bool) (a b : ℕ) → 0 < b → inBound (roundUp s a b) ≡ lowFrom (fraction s a b)
+low-fraction true a b B = ap (λ (z : ℕ). inBound (signed true z)) (sym (add-zero (a / b))) ∙ minus-bound (a / b) 0
+low-fraction false a b B =
+    let d = one (eqb (restOf a b) 0) in
+    let f : ℕ → BoundField = λ q. inBound (pos (q + d)) in
+    let past : (q : ℕ) → 2 ^ 31 ≤ q → f q ≡ BoundField.Bad 11 = λ q l. past-bound (q + d) (omega arith) in
+    ap (λ (z : ℕ). inBound (pos (a / b + z))) (added a b)
+    ∙ cut f (BoundField.Bad 11) (2 ^ 31) past (omega arith) (a / b)
+    ∙ tested-first f (BoundField.Bad 11) (2 ^ 31) past (min (a / b) (2 ^ 52))
 
 pub low-product : (k : ℕ) (x : Float) → lowField k x ≡ lowFrom (product k x)
-low-product k nan = refl
-low-product k (inf s) = refl
-low-product k (fin s m e) = low-fraction s (m * up e * 2 ^ k) (down e)
+low-product = by-product inBound roundUp lowFrom low-fraction
 
--- ---- high: down
-high-minus : (q : ℕ) (t : Bool) → inBound (signed true (q + cond t 0 1)) ≡ cond (eqb (min q (2 ^ 52)) 0) (cond t (BoundField.Units 0) (BoundField.Bad 11)) (BoundField.Bad 11)
-high-minus zero true = refl
-high-minus zero false = refl
-high-minus (suc n) t =
-    ap (λ (z : ℕ). inBound (signed true z)) (up-one n (cond t 0 1)) ∙ sym (ap (λ (b : Bool). cond b (cond t (BoundField.Units 0) (BoundField.Bad 11)) (BoundField.Bad 11)) (ne-eqb (min (suc n) (2 ^ 52)) 0 (λ e. omega arith)))
-  where
-    up-one : (n d : ℕ) → suc n + d ≡ suc (n + d)
-    up-one n d = omega arith
+-- high: down
+one-below : (t : Bool) → inBound (signed true (one t)) ≡ cond t (BoundField.Units 0) (BoundField.Bad 11)
+one-below true = refl
+one-below false = refl
 
-high-plus : (q : ℕ) → inBound (pos q) ≡ inBound (pos (min q (2 ^ 52)))
-high-plus q = go (ltb q (2 ^ 31)) (ltb→lt q (2 ^ 31)) (nltb→le q (2 ^ 31))
-  where
-    go : (b : Bool) → (T b → q < 2 ^ 31) → (T (not b) → 2 ^ 31 ≤ q) → inBound (pos q) ≡ inBound (pos (min q (2 ^ 52)))
-    go true h k =
-        let l : q < 2 ^ 31 = h tt in
-        let e : min q (2 ^ 52) ≡ q = omega arith in
-        ap (λ (w : ℕ). inBound (pos w)) (sym e)
-    go false h k =
-        let l : 2 ^ 31 ≤ q = k tt in
-        bound-out q l ∙ sym (bound-out (min q (2 ^ 52)) (omega arith))
-
-high-fraction : (s : Bool) (a b : ℕ) → inBound (roundDown s a b) ≡ highFrom (fraction s a b)
-high-fraction true a b =
-    high-minus (a / b) (eqb (a % b) 0)
-    ∙ ap (λ (t : Bool). cond (eqb (min (a / b) (2 ^ 52)) 0) (cond t (BoundField.Units 0) (BoundField.Bad 11)) (BoundField.Bad 11)) (sym (rest-none (eqb (a % b) 0) (compare (a % b * 2) b)))
-high-fraction false a b = high-plus (a / b)
+high-fraction : (s : Bool) (a b : ℕ) → 0 < b → inBound (roundDown s a b) ≡ highFrom (fraction s a b)
+high-fraction true a b B =
+    let t = eqb (restOf a b) 0 in
+    ap (λ (z : ℕ). inBound (signed true (a / b + z))) (added a b)
+    ∙ minus-bound (a / b) (one t)
+    ∙ ap (λ (f : BoundField). cond (eqb (min (a / b) (2 ^ 52)) 0) f (BoundField.Bad 11)) (one-below t)
+high-fraction false a b B = cut (λ q. inBound (pos q)) (BoundField.Bad 11) (2 ^ 31) past-bound (omega arith) (a / b)
 
 pub high-product : (k : ℕ) (x : Float) → highField k x ≡ highFrom (product k x)
-high-product k nan = refl
-high-product k (inf s) = refl
-high-product k (fin s m e) = high-fraction s (m * up e * 2 ^ k) (down e)
+high-product = by-product inBound roundDown highFrom high-fraction
 
--- ---- target: to nearest
+-- ---- the target: to nearest
+
 -- a whole part of which nothing is left compares as less
 near-is : (q : ℕ) (t : Bool) (o : Ordering) → (T t → o ≡ Ordering·lt) → nearest q o ≡ q + more q (restAt t o)
 near-is q true o h = ap (nearest q) (h tt) ∙ sym (add-zero q)
@@ -147,26 +151,16 @@ closest-is a b B = near-is (a / b) (eqb (a % b) 0) (compare (a % b * 2) b) none
     none : T (eqb (a % b) 0) → compare (a % b * 2) b ≡ Ordering·lt
     none t = ap (λ (r : ℕ). compare (r * 2) b) (eqb→eq (a % b) 0 t) ∙ compare-is Ordering·lt 0 b B
 
-target-cut : (s : Bool) (q r : ℕ) → inTarget (signed s (q + more q r)) ≡ cond (leb (2 ^ 32) (min q (2 ^ 52))) (TargetField.Bad 11) (inTarget (signed s (min q (2 ^ 52) + more (min q (2 ^ 52)) r)))
-target-cut s q r = go (ltb q (2 ^ 32)) (ltb→lt q (2 ^ 32)) (nltb→le q (2 ^ 32))
-  where
-    go : (b : Bool) → (T b → q < 2 ^ 32) → (T (not b) → 2 ^ 32 ≤ q) → inTarget (signed s (q + more q r)) ≡ cond (leb (2 ^ 32) (min q (2 ^ 52))) (TargetField.Bad 11) (inTarget (signed s (min q (2 ^ 52) + more (min q (2 ^ 52)) r)))
-    go true h k =
-        let l : q < 2 ^ 32 = h tt in
-        let e : min q (2 ^ 52) ≡ q = omega arith in
-        sym (ap (λ (w : ℕ). cond (leb (2 ^ 32) w) (TargetField.Bad 11) (inTarget (signed s (w + more w r)))) e ∙ ap (λ (b : Bool). cond b (TargetField.Bad 11) (inTarget (signed s (q + more q r)))) (lt-leb (2 ^ 32) q l))
-    go false h k =
-        let l : 2 ^ 32 ≤ q = k tt in
-        far-out s (q + more q r) (omega arith)
-        ∙ sym (ap (λ (b : Bool). cond b (TargetField.Bad 11) (inTarget (signed s (min q (2 ^ 52) + more (min q (2 ^ 52)) r)))) (le-leb (2 ^ 32) (min q (2 ^ 52)) (omega arith)))
-
 target-fraction : (s : Bool) (a b : ℕ) → 0 < b → inTarget (roundNearest s a b) ≡ targetFrom (fraction s a b)
-target-fraction s a b B = ap (λ (q : ℕ). inTarget (signed s q)) (closest-is a b B) ∙ target-cut s (a / b) (restOf a b)
+target-fraction s a b B =
+    let f : ℕ → TargetField = λ q. inTarget (signed s (q + more q (restOf a b))) in
+    let past : (q : ℕ) → 2 ^ 32 ≤ q → f q ≡ TargetField.Bad 11 = λ q l. far-out s (q + more q (restOf a b)) (omega arith) in
+    ap (λ (q : ℕ). inTarget (signed s q)) (closest-is a b B)
+    ∙ cut f (TargetField.Bad 11) (2 ^ 32) past (omega arith) (a / b)
+    ∙ tested-first f (TargetField.Bad 11) (2 ^ 32) past (min (a / b) (2 ^ 52))
 
 pub target-product : (k : ℕ) (x : Float) → targetField k x ≡ targetFrom (product k x)
-target-product k nan = refl
-target-product k (inf s) = refl
-target-product k (fin s m e) = target-fraction s (m * up e * 2 ^ k) (down e) (down-pos e)
+target-product = by-product inTarget roundNearest targetFrom target-fraction
 
 -- ---- -1 - (q - 1) in an i32
 minus-one-less : (n : ℕ) → negsuc 0 -ℤ pos n ≡ negsuc n

@@ -1,44 +1,16 @@
 -- The form `fraction` sees only the value of a / b: equal fractions give the same. And what it gives at digits times a power of two, by the
 -- tests that the code makes. Assumes nothing.
-use mathlib.Core.Path.{_≡_, refl, sym, ap, _∙_, subst}
-use mathlib.Core.Bool.{Bool, false, not}
+use mathlib.Core.Path.{_≡_, refl, sym, ap, _∙_}
+use mathlib.Core.Bool.{Bool, false}
 use Prim.Native.Nat.{ℕ, _+_, _-_, _*_, _/_, _%_, _^_, _≤_, _<_, min, compare, Ordering, Ordering·lt, Ordering·eq, Ordering·gt}
 use native.Mathlib.Nat.{mul-comm, mul-assoc, mul-right-comm, add-mul, zero-mul, mul-one, one-mul, div-one, mod-one, div-add-mod', mul-lt-mul-of-pos-right, div-eq-of-lt, mod-eq-of-lt, min-eq-left, min-eq-right, le-trans, lt-of-lt-of-le, le-of-lt, le-mul-of-pos-right}
 use native.Mathlib.Omega.{arith}
-use lib.Dec.{T, lit<, isLe, isEq, eqb, leb→le, nleb→lt, eqb→eq, eqb-refl}
-use lib.Arith.{lt-of-le-ne}
+use lib.Dec.{lit<, isEq, eqb}
 use lib.Pow.{pow-add, pow-pos, pow-mono, shr-lt, shl-exact}
 use lib.Ieee.Nearest.{div-same}
+use Rattle.numbers.proofs.TestLaws.{Cmp, cmp, compare-is}
 use Rattle.conversion.specs.Forms.{restAt, restOf, fraction}
 use Rattle.conversion.specs.declared.Product.the-variants.{Finite}
-
--- ---- what `compare` says
-abbrev pub Cmp : Ordering → ℕ → ℕ → Type 0
-Cmp Ordering·lt a b = a < b
-Cmp Ordering·eq a b = a ≡ b
-Cmp Ordering·gt a b = b < a
-
-pub cmp : (a b : ℕ) → Cmp (compare a b) a b
-cmp a b = go (compare a b) (leb→le a b) (nleb→lt a b) (eqb→eq a b) (λ (e : a ≡ b). subst (λ (x : ℕ). T (eqb a x)) e (eqb-refl a))
-  where
-    go : (o : Ordering) → (T (isLe o) → a ≤ b) → (T (not (isLe o)) → b < a) → (T (isEq o) → a ≡ b) → (a ≡ b → T (isEq o)) → Cmp o a b
-    go Ordering·lt h k e n = lt-of-le-ne (h tt) n
-    go Ordering·eq h k e n = e tt
-    go Ordering·gt h k e n = k tt
-
-only-one : (o p : Ordering) (a b : ℕ) → Cmp o a b → Cmp p a b → o ≡ p
-only-one Ordering·lt Ordering·lt a b h k = refl
-only-one Ordering·lt Ordering·eq a b h k = absurd (omega arith)
-only-one Ordering·lt Ordering·gt a b h k = absurd (omega arith)
-only-one Ordering·eq Ordering·lt a b h k = absurd (omega arith)
-only-one Ordering·eq Ordering·eq a b h k = refl
-only-one Ordering·eq Ordering·gt a b h k = absurd (omega arith)
-only-one Ordering·gt Ordering·lt a b h k = absurd (omega arith)
-only-one Ordering·gt Ordering·eq a b h k = absurd (omega arith)
-only-one Ordering·gt Ordering·gt a b h k = refl
-
-pub compare-is : (o : Ordering) (a b : ℕ) → Cmp o a b → compare a b ≡ o
-compare-is o a b h = only-one (compare a b) o a b (cmp a b) h
 
 compare-scale : (a b c : ℕ) → 0 < c → compare (a * c) (b * c) ≡ compare a b
 compare-scale a b c C = compare-is (compare a b) (a * c) (b * c) (go (compare a b) (cmp a b))

@@ -3,33 +3,31 @@
 use mathlib.Core.Path.{_≡_, refl, sym, _∙_, ap}
 use mathlib.Core.Logic.{_↔_}
 use mathlib.Core.Bool.{Bool, true, false, _&&_, cond, true≢false}
-use mathlib.Core.List.{[], _∷_}
+use mathlib.Core.List.{List, [], _∷_}
 use Prim.Native.Nat.{ℕ, _^_, _≤_}
-use native.Mathlib.Omega.{arith}
-use lib.Dec.{ltb, leb, leb·zero, leb·suc-suc}
+use lib.Dec.{ltb, leb, eqb, leb·zero, leb·suc-suc}
 use lib.IntN.{ℤ, pos, negsuc}
-use lib.Signed.{leZ}
+use lib.Signed.{leZ, _≤ℤ_}
 use lib.Ieee.{Float, nan, inf, fin}
 use Rattle.numbers.specs.declared.Checked.{Checked}
 use Rattle.numbers.specs.declared.Checked.the-variants.{Pass, Fail}
 use Rattle.numbers.specs.Signed.{over}
-use Rattle.numbers.specs.Checks.{answered, unless, both, Decides, rule, ruleFor, inOrder, Holds, Broken, maxTotal}
-use Rattle.numbers.proofs.TestLaws.{le-means, and-means}
+use Rattle.numbers.specs.Checks.{Answered, answered, unless, both, Decides, rule, ruleFor, Holds, Broken, maxTotal, DecidesAll, RefuseWith, checkScale}
+use Rattle.numbers.specs.Roundings.{roundUp, roundDown, roundNearest}
+use Rattle.numbers.proofs.TestLaws.{le-means, and-means, injective}
 use Rattle.numbers.proofs.SignedLaws.{leZ-means}
-use Rattle.numbers.proofs.CheckLaws.{decides-for, decides-unless, decides-then, decides-none}
-use Rattle.conversion.specs.Import.{isFinite, Finite, targetUnits, lowUnits, highUnits, checkScale, checkFinite, checkTarget, checkBound, importVerdict, TargetRange, BoundRange, importRules, ImportFits, doubleAt, importUnits, importTells, importHolds, carried, ImportContract}
-use Rattle.conversion.specs.Forms.{inTarget, inBound, targetField, lowField, highField, thenTarget, thenBound, importFields, importForm}
+use Rattle.numbers.proofs.CheckLaws.{decides-for, decides-unless, decides-then, decides-none, scale-decides}
+use Rattle.numbers.proofs.ChainLaws.{refuse-with}
+use Rattle.conversion.specs.Import.{isFinite, Finite, scaled, targetUnits, lowUnits, highUnits, checkFinite, checkTarget, checkBound, importVerdict, TargetRange, BoundRange, importRules, ImportFits, doubleAt, importUnits, importTells, importHolds, importHolding, carried, ImportContract}
+use Rattle.conversion.specs.Forms.{inTarget, inBound, fieldBy, targetField, thenTarget, thenBound, importFields, importForm}
 use Rattle.conversion.specs.declared.CellDoubles.{CellDoubles}
+use Rattle.conversion.specs.declared.CellUnits.{CellUnits}
 use Rattle.conversion.specs.declared.Imported.{Imported}
 use Rattle.conversion.specs.declared.Imported.the-variants.{Units, BadScale, Refused}
 use Rattle.conversion.specs.declared.TargetField.{TargetField}
 use Rattle.conversion.specs.declared.BoundField.{BoundField}
 
 -- ---- each check
-
-pub scale-decides : (k : ℕ) → Decides (checkScale k) (rule 9 (k ≤ 30))
-unfolding checkScale
-scale-decides k = decides-unless _ 9 (le-means k 30)
 
 finite-means : (x : Float) → (isFinite x ≡ true) ↔ Finite x
 finite-means nan = (λ e. true≢false (sym e), λ h. absurd h)
@@ -40,19 +38,26 @@ finite-decides : (place : ℕ) (x : Float) → Decides (checkFinite place x) (ru
 unfolding checkFinite
 finite-decides place x = decides-for _ 10 place (finite-means x)
 
+-- a range that ends at 2147483647: the target's and the bounds' begin apart
+abbrev inside : ℤ → ℤ → Bool
+inside least z = leZ least z && leZ z (pos maxTotal)
+
+range-decides : (least : ℤ) (place : ℕ) (z : ℤ) → Decides (unless (inside least z) 11 place) (ruleFor 11 place ((least ≤ℤ z) × (z ≤ℤ pos maxTotal)))
+range-decides least place z = decides-for _ 11 place (and-means (leZ-means least z) (leZ-means z (pos maxTotal)))
+
 target-decides : (place : ℕ) (z : ℤ) → Decides (checkTarget place z) (ruleFor 11 place (TargetRange z))
 unfolding checkTarget
-target-decides place z = decides-for _ 11 place (and-means (leZ-means (negsuc maxTotal) z) (leZ-means z (pos maxTotal)))
+target-decides = range-decides (negsuc maxTotal)
 
 bound-decides : (place : ℕ) (z : ℤ) → Decides (checkBound place z) (ruleFor 11 place (BoundRange z))
 unfolding checkBound
-bound-decides place z = decides-for _ 11 place (and-means (leZ-means (pos 0) z) (leZ-means z (pos maxTotal)))
+bound-decides = range-decides (pos 0)
 
 -- ---- the verdict
 
 module _ (c : CellDoubles) (k : ℕ) where
   -- accepted if every rule holds; refused with a number at a place if those before it hold and this one is broken there
-  pub import-decides : Decides (importVerdict c k) (inOrder (importRules c k))
+  pub import-decides : DecidesAll (importVerdict c k) (importRules c k)
   unfolding importVerdict importRules
   import-decides =
       decides-then _ _ _ _ (scale-decides k)
@@ -93,28 +98,33 @@ module _ (c : CellDoubles) (k : ℕ) where
   pub import-refuses : (number place : ℕ) → (importVerdict c k ≡ Fail number place) ↔ Broken (importRules c k) number place
   import-refuses = import-decides .fails
 
+  -- the numbers that it refuses with
+  pub import-numbers : RefuseWith (importRules c k) (9 ∷ 10 ∷ 11 ∷ [])
+  unfolding importRules
+  import-numbers = refuse-with (importRules c k) (9 ∷ 10 ∷ 11 ∷ []) refl refl
+
 -- ---- the answer
 
 -- what an answer tells and the double that it holds are the answer
-pub import-answer-injective : (a b : Imported) → importTells a ≡ importTells b → importHolds a ≡ importHolds b → a ≡ b
+held-back : (a : Imported) → importHolding (importTells a) (importHolds a) ≡ a
 unfolding importTells importHolds
-import-answer-injective (Units u) (Units v) e h = cc
-import-answer-injective (Units u) BadScale e h = let z : _≡_ {A = ℕ} 0 1 = cc in absurd (omega arith)
-import-answer-injective (Units u) (Refused n p x) e h = let z : _≡_ {A = ℕ} 0 1 = cc in absurd (omega arith)
-import-answer-injective BadScale (Units u) e h = let z : _≡_ {A = ℕ} 0 1 = cc in absurd (omega arith)
-import-answer-injective BadScale BadScale e h = refl
-import-answer-injective BadScale (Refused n p x) e h = let z : _≡_ {A = ℕ} 0 1 = cc in absurd (omega arith)
-import-answer-injective (Refused n p x) (Units u) e h = let z : _≡_ {A = ℕ} 0 1 = cc in absurd (omega arith)
-import-answer-injective (Refused n p x) BadScale e h = let z : _≡_ {A = ℕ} 0 1 = cc in absurd (omega arith)
-import-answer-injective (Refused n p x) (Refused m q y) e h = cc
+held-back (Units u) = refl
+held-back BadScale = refl
+held-back (Refused number field double) = refl
 
--- ---- what one field gives, by its two tests
+pub import-answer-injective : (a b : Imported) → importTells a ≡ importTells b → importHolds a ≡ importHolds b → a ≡ b
+import-answer-injective a b e h = injective {B = Answered CellUnits × List Float} {f = λ x. (importTells x, importHolds x)} (λ t. importHolding (t .0) (t .1)) held-back a b (rw (e, h))
 
-abbrev targetGood : ℤ → Bool
-targetGood z = leZ (negsuc maxTotal) z && leZ z (pos maxTotal)
+-- ---- what one field gives, by its two tests: it is finite, and in range
 
-abbrev boundGood : ℤ → Bool
-boundGood z = leZ (pos 0) z && leZ z (pos maxTotal)
+abbrev byTests : {F : Type 0} → Bool → Bool → F → (ℕ → F) → F
+byTests finite good units bad = cond finite (cond good units (bad 11)) (bad 10)
+
+field-by : {F : Type 0} (units inRange : ℤ → F) (bad : ℕ → F) (good : ℤ → Bool) → ((z : ℤ) → inRange z ≡ cond (good z) (units z) (bad 11))
+    → (rounding : Bool → ℕ → ℕ → ℤ) (k : ℕ) (x : Float) → fieldBy (bad 10) inRange rounding k x ≡ byTests (isFinite x) (good (scaled rounding k x)) (units (scaled rounding k x)) bad
+field-by units inRange bad good h rounding k nan = refl
+field-by units inRange bad good h rounding k (inf s) = refl
+field-by units inRange bad good h rounding k (fin s m e) = h (scaled rounding k (fin s m e))
 
 -- below 2 ^ 31 is at most 2 ^ 31 - 1
 below : (n : ℕ) → ltb n (2 ^ 31) ≡ leb n maxTotal
@@ -124,35 +134,13 @@ and-true : (b : Bool) → b && true ≡ b
 and-true true = refl
 and-true false = refl
 
-in-target : (z : ℤ) → inTarget z ≡ cond (targetGood z) (TargetField.Units z) (TargetField.Bad 11)
+in-target : (z : ℤ) → inTarget z ≡ cond (inside (negsuc maxTotal) z) (TargetField.Units z) (TargetField.Bad 11)
 in-target (pos n) = ap (λ b. cond b (TargetField.Units (pos n)) (TargetField.Bad 11)) (below n)
 in-target (negsuc n) = ap (λ b. cond b (TargetField.Units (negsuc n)) (TargetField.Bad 11)) (below n ∙ sym (and-true (leb n maxTotal)))
 
-in-bound : (z : ℤ) → inBound z ≡ cond (boundGood z) (BoundField.Units (over z)) (BoundField.Bad 11)
+in-bound : (z : ℤ) → inBound z ≡ cond (inside (pos 0) z) (BoundField.Units (over z)) (BoundField.Bad 11)
 in-bound (pos n) = ap (λ b. cond b (BoundField.Units n) (BoundField.Bad 11)) (below n ∙ ap (λ b. b && leb n maxTotal) (sym (leb·zero n)))
 in-bound (negsuc n) = refl
-
-abbrev targetBy : Float → ℤ → TargetField
-targetBy x z = cond (isFinite x) (cond (targetGood z) (TargetField.Units z) (TargetField.Bad 11)) (TargetField.Bad 10)
-
-abbrev boundBy : Float → ℤ → BoundField
-boundBy x z = cond (isFinite x) (cond (boundGood z) (BoundField.Units (over z)) (BoundField.Bad 11)) (BoundField.Bad 10)
-
-module _ (k : ℕ) where
-  target-by : (x : Float) → targetField k x ≡ targetBy x (targetUnits k x)
-  target-by nan = refl
-  target-by (inf s) = refl
-  target-by (fin s m e) = in-target (targetUnits k (fin s m e))
-
-  low-by : (x : Float) → lowField k x ≡ boundBy x (lowUnits k x)
-  low-by nan = refl
-  low-by (inf s) = refl
-  low-by (fin s m e) = in-bound (lowUnits k (fin s m e))
-
-  high-by : (x : Float) → highField k x ≡ boundBy x (highUnits k x)
-  high-by nan = refl
-  high-by (inf s) = refl
-  high-by (fin s m e) = in-bound (highUnits k (fin s m e))
 
 -- ---- the form keeps the contract: field by field, what is left of the checks decides what is left of the form
 
@@ -160,35 +148,32 @@ module _ (c : CellDoubles) (k : ℕ) where
   abbrev Meets : Checked → Imported → Type 0
   Meets v a = (importTells a ≡ answered v (importUnits c k)) × (importHolds a ≡ carried v c)
 
-  module _ (place : ℕ) (x : Float) (at-place : x ≡ doubleAt c place) where
-    -- a refusal of the field
-    refuse-10 : Meets (Fail 10 place) (Refused 10 place x)
+  module _ (place : ℕ) (x : Float) (at-place : x ≡ doubleAt c place) {F : Type 0} (units : F) (bad : ℕ → F) (next : F → Imported) (refuses : (number : ℕ) → next (bad number) ≡ Refused number place x) where
+    refuse : (number : ℕ) → eqb number 9 ≡ false → Meets (Fail number place) (next (bad number))
     unfolding importTells importHolds carried
-    refuse-10 = (refl, ap (λ y. y ∷ []) at-place)
+    refuse number e = rw (refuses number, e) (refl, ap (λ y. y ∷ []) at-place)
 
-    refuse-11 : Meets (Fail 11 place) (Refused 11 place x)
-    unfolding importTells importHolds carried
-    refuse-11 = (refl, ap (λ y. y ∷ []) at-place)
+    field-meets : (rest : Checked) → Meets rest (next units) → (finite good : Bool) → Meets (both (unless finite 10 place) (both (unless good 11 place) rest)) (next (byTests finite good units bad))
+    field-meets rest m true true = m
+    field-meets rest m true false = refuse 11 refl
+    field-meets rest m false good = refuse 10 refl
 
-    bound-meets : (z : ℤ) {field : BoundField} (rest : Checked) (g : ℕ → Imported) → field ≡ boundBy x z → Meets rest (g (over z))
-        → Meets (both (checkFinite place x) (both (checkBound place z) rest)) (thenBound field place x g)
-    unfolding checkFinite checkBound
-    bound-meets z rest g e m = rw e (go (isFinite x) (boundGood z))
-      where
-        go : (f i : Bool) → Meets (both (unless f 10 place) (both (unless i 11 place) rest)) (thenBound (cond f (cond i (BoundField.Units (over z)) (BoundField.Bad 11)) (BoundField.Bad 10)) place x g)
-        go true true = m
-        go true false = refuse-11
-        go false i = refuse-10
-
-  target-meets : (z : ℤ) {field : TargetField} (rest : Checked) (g : ℤ → Imported) → field ≡ targetBy (c .target) z → Meets rest (g z)
-      → Meets (both (checkFinite 0 (c .target)) (both (checkTarget 0 z) rest)) (thenTarget field (c .target) g)
+  target-meets : (rest : Checked) (g : ℤ → Imported) → Meets rest (g (targetUnits k (c .target)))
+      → Meets (both (checkFinite 0 (c .target)) (both (checkTarget 0 (targetUnits k (c .target))) rest)) (thenTarget (targetField k (c .target)) (c .target) g)
   unfolding checkFinite checkTarget
-  target-meets z rest g e m = rw e (go (isFinite (c .target)) (targetGood z))
-    where
-      go : (f i : Bool) → Meets (both (unless f 10 0) (both (unless i 11 0) rest)) (thenTarget (cond f (cond i (TargetField.Units z) (TargetField.Bad 11)) (TargetField.Bad 10)) (c .target) g)
-      go true true = m
-      go true false = refuse-11 0 (c .target) refl
-      go false i = refuse-10 0 (c .target) refl
+  target-meets rest g m =
+      let x = c .target in
+      let z = targetUnits k x in
+      rw (field-by TargetField.Units inTarget TargetField.Bad (inside (negsuc maxTotal)) in-target roundNearest k x)
+      (field-meets 0 x refl (TargetField.Units z) TargetField.Bad (λ f. thenTarget f x g) (λ n. refl) rest m (isFinite x) (inside (negsuc maxTotal) z))
+
+  bound-meets : (rounding : Bool → ℕ → ℕ → ℤ) (place : ℕ) (x : Float) → x ≡ doubleAt c place → (rest : Checked) (g : ℕ → Imported) → Meets rest (g (over (scaled rounding k x)))
+      → Meets (both (checkFinite place x) (both (checkBound place (scaled rounding k x)) rest)) (thenBound (fieldBy (BoundField.Bad 10) inBound rounding k x) place x g)
+  unfolding checkFinite checkBound
+  bound-meets rounding place x at-place rest g m =
+      let z = scaled rounding k x in
+      rw (field-by (λ y. BoundField.Units (over y)) inBound BoundField.Bad (inside (pos 0)) in-bound rounding k x)
+      (field-meets place x at-place (BoundField.Units (over z)) BoundField.Bad (λ f. thenBound f place x g) (λ n. refl) rest m (isFinite x) (inside (pos 0) z))
 
   all-units : Meets Pass (Units (importUnits c k))
   unfolding importTells importHolds carried
@@ -206,11 +191,11 @@ module _ (c : CellDoubles) (k : ℕ) where
   unfolding importVerdict importForm importFields importUnits
   form-meets =
       scale-meets _ _
-      (target-meets _ _ _ (target-by k (c .target))
-      (bound-meets 1 (c .low) refl _ _ _ (low-by k (c .low))
-      (bound-meets 2 (c .high) refl _ _ _ (high-by k (c .high))
-      (bound-meets 3 (c .«safe_low») refl _ _ _ (low-by k (c .«safe_low»))
-      (bound-meets 4 (c .«safe_high») refl _ _ _ (high-by k (c .«safe_high»)) all-units)))))
+      (target-meets _ _
+      (bound-meets roundUp 1 (c .low) refl _ _
+      (bound-meets roundDown 2 (c .high) refl _ _
+      (bound-meets roundUp 3 (c .«safe_low») refl _ _
+      (bound-meets roundDown 4 (c .«safe_high») refl _ _ all-units)))))
 
   pub import-meets : ImportContract c k (importForm k c)
   import-meets = record { answers = form-meets .0; carries = form-meets .1 }

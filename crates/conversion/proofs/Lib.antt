@@ -2,7 +2,6 @@ pub mod Fractions
 pub mod Powers
 pub mod Patterns
 pub mod FieldLaws
-pub mod FormLaws
 pub mod RoundingLaws
 pub mod ImportLaws
 pub mod ExportLaws

@@ -1,17 +1,17 @@
--- The double of a power of two from its bits, the product of a whole number with it, and that it is exact. Assumes nothing.
+-- The double of a power of two from its bits, and the product of a mass with it. Assumes nothing.
 use mathlib.Core.Path.{_≡_, sym, ap, _∙_, subst}
 use mathlib.Core.Bool.{Bool, false, not, cond}
 use Prim.Native.Nat.{ℕ, suc, _+_, _-_, _*_, _/_, _%_, _^_, _≤_, _<_}
-use native.Mathlib.Nat.{mul-assoc, mul-right-comm, mul-mul-mul-comm, mul-one, one-mul, mul-pos, zero-lt-suc, lt-of-lt-of-le, le-of-lt, eq-of-mul-eq-mul-right}
+use native.Mathlib.Nat.{mul-right-comm, mul-mul-mul-comm, mul-one, one-mul, mul-pos, zero-lt-suc, lt-of-lt-of-le, le-of-lt, eq-of-mul-eq-mul-right}
 use native.Mathlib.Omega.{arith}
 use lib.IntN.{pos}
 use lib.Dec.{T, lit≤}
 use lib.Arith.{le→nltb}
-use lib.Pow.{pow-add, pow-pos, pow-mono, shl-lt}
+use lib.Pow.{pow-add, pow-pos}
 use borrow.Author.Tests.{ne-eqb, lt-leb}
 use lib.Ieee.{Float, nan, inf, fin, Format, binary64, prec, up, down, unlike, odd, round, mul, ofInt, ofFields, ofBits, nanBits}
 use lib.Ieee.Fits.{down-pos}
-use lib.Ieee.Exact.{HasValue, odd-sign, round-exact}
+use lib.Ieee.Exact.{HasValue, odd-sign}
 use lib.Ieee.Bits.{nanBits-above}
 use lib.Ieee.Back.{round-whole}
 use lib.Ieee.Scale.{round-same}
@@ -101,25 +101,3 @@ module _ (f : Format) where
 pub product-is : (k mass : ℕ) (p : Float) → mass < 2 ^ 32 → HasValue p false 1 (2 ^ k) → mul binary64 (ofInt binary64 (pos mass)) p ≡ exportDouble mass k
 unfolding exportDouble
 product-is k mass p h v = mul-power binary64 k mass p (le-of-lt (lt-of-lt-of-le h (lit≤ tt))) v
-
--- ---- it is exact
-pub double-exact : (k mass : ℕ) → k ≤ 30 → mass < 2 ^ 31 → HasValue (exportDouble mass k) false mass (2 ^ k)
-unfolding exportDouble
-double-exact k mass K h =
-    let j = 1074 - k in
-    round-exact binary64 false mass (2 ^ k) mass j (pow-pos k) (lt-of-lt-of-le h (lit≤ tt))
-    (lt-of-lt-of-le (shl-lt 31 j h) (pow-mono (room k)))
-    (ap (λ (x : ℕ). mass * 2 ^ x) (places k K) ∙ ap (λ (x : ℕ). mass * x) (pow-add 2 j k) ∙ sym (mul-assoc mass (2 ^ j) (2 ^ k)))
-  where
-    room : (k : ℕ) → 31 + (1074 - k) ≤ 2098
-    room k = omega arith
-
-    places : (k : ℕ) → k ≤ 30 → 1074 ≡ 1074 - k + k
-    places k h = omega arith
-
-pub double-zero : (k : ℕ) → exportDouble 0 k ≡ fin false 0 (pos 0)
-unfolding exportDouble round
-double-zero k = round-same binary64 false 0 (2 ^ k) 0 1 (pow-pos k) (zero-lt-suc 0) (nothing (2 ^ k))
-  where
-    nothing : (p : ℕ) → 0 * 1 ≡ 0 * p
-    nothing p = omega arith

@@ -7,8 +7,7 @@ use lib.Dec.{leb}
 use lib.Ieee.{Float, binary64, round}
 use lib.Ieee.Exact.{HasValue}
 use Rattle.numbers.specs.declared.Checked.{Checked}
-use Rattle.numbers.specs.Checks.{Answered, accepted, refused, answered, unless, first, Rule, rule, maxTotal}
-use Rattle.conversion.specs.Import.{checkScale}
+use Rattle.numbers.specs.Checks.{Answered, accepted, refused, answered, unless, first, Rule, rule, maxTotal, checkScale}
 use Rattle.conversion.specs.declared.Exported.{Exported}
 use Rattle.conversion.specs.declared.Exported.the-variants.{Double, Refused}
 
@@ -16,8 +15,11 @@ use Rattle.conversion.specs.declared.Exported.the-variants.{Double, Refu
 unfoldable pub checkMass : ℕ → Checked
 checkMass mass = unless (leb mass maxTotal) 11 0
 
+abbrev pub exportChecks : ℕ → ℕ → List Checked
+exportChecks mass k = checkScale k ∷ checkMass mass ∷ []
+
 unfoldable pub exportVerdict : ℕ → ℕ → Checked
-exportVerdict mass k = first (checkScale k ∷ checkMass mass ∷ [])
+exportVerdict mass k = first (exportChecks mass k)
 
 -- what the checks mean
 unfoldable pub exportRules : ℕ → ℕ → List Rule
@@ -35,6 +37,11 @@ exportDouble mass k = round binary64 false mass (2 ^ k)
 unfoldable pub exportTells : Exported → Answered Float
 exportTells (Double x) = accepted x
 exportTells (Refused number place) = refused number place
+
+-- the answer that tells this
+abbrev pub exportAnswer : Answered Float → Exported
+exportAnswer (accepted x) = Double x
+exportAnswer (refused number place) = Refused number place
 
 -- x is mass * 2 ^ −k exactly, with the sign plus: of x = fin s m e, s is false and m * up e * 2 ^ k ≡ mass * down e
 abbrev pub Exact : ℕ → ℕ → Float → Type 0

@@ -5,7 +5,7 @@ use lib.IntN.{ℤ, pos, negsuc}
 use lib.Dec.{leb, ltb, eqb}
 use lib.Ieee.{Float, nan, inf, fin, up, down}
 use Rattle.conversion.specs.Import.{scaled}
-use Rattle.conversion.specs.Roundings.{roundNearest, roundUp, roundDown}
+use Rattle.numbers.specs.Roundings.{roundNearest, roundUp, roundDown}
 use Rattle.conversion.specs.declared.CellDoubles.{CellDoubles}
 use Rattle.conversion.specs.declared.Imported.{Imported}
 use Rattle.conversion.specs.declared.Imported.the-variants.{Units, BadScale, Refused}
@@ -42,20 +42,20 @@ abbrev pub inBound : ℤ → BoundField
 inBound (pos n) = cond (ltb n (2 ^ 31)) (BoundField.Units n) (BoundField.Bad 11)
 inBound (negsuc n) = BoundField.Bad 11
 
+-- refused if the double is not finite; else rounded, if that is in range
+abbrev pub fieldBy : {F : Type 0} → F → (ℤ → F) → (Bool → ℕ → ℕ → ℤ) → ℕ → Float → F
+fieldBy bad inRange rounding k nan = bad
+fieldBy bad inRange rounding k (inf s) = bad
+fieldBy bad inRange rounding k (fin s m e) = inRange (scaled rounding k (fin s m e))
+
 abbrev pub targetField : ℕ → Float → TargetField
-targetField k nan = TargetField.Bad 10
-targetField k (inf s) = TargetField.Bad 10
-targetField k (fin s m e) = inTarget (scaled roundNearest k (fin s m e))
+targetField k x = fieldBy (TargetField.Bad 10) inTarget roundNearest k x
 
 abbrev pub lowField : ℕ → Float → BoundField
-lowField k nan = BoundField.Bad 10
-lowField k (inf s) = BoundField.Bad 10
-lowField k (fin s m e) = inBound (scaled roundUp k (fin s m e))
+lowField k x = fieldBy (BoundField.Bad 10) inBound roundUp k x
 
 abbrev pub highField : ℕ → Float → BoundField
-highField k nan = BoundField.Bad 10
-highField k (inf s) = BoundField.Bad 10
-highField k (fin s m e) = inBound (scaled roundDown k (fin s m e))
+highField k x = fieldBy (BoundField.Bad 10) inBound roundDown k x
 
 -- ---- the five fields: the first that is refused, or the units
 abbrev pub thenTarget : TargetField → Float → (ℤ → Imported) → Imported

@@ -11,8 +11,8 @@ use lib.Ieee.{Float, nan, inf, fin, up, down}
 use Rattle.numbers.specs.declared.Checked.{Checked}
 use Rattle.numbers.specs.declared.Checked.the-variants.{Pass, Fail}
 use Rattle.numbers.specs.Signed.{over}
-use Rattle.numbers.specs.Checks.{Answered, accepted, refused, answered, unless, first, Rule, rule, ruleFor, maxTotal}
-use Rattle.conversion.specs.Roundings.{roundDown, roundUp, roundNearest}
+use Rattle.numbers.specs.Checks.{Answered, accepted, refused, answered, unless, first, Rule, rule, ruleFor, maxTotal, checkScale}
+use Rattle.numbers.specs.Roundings.{roundDown, roundUp, roundNearest}
 use Rattle.conversion.specs.declared.CellDoubles.{CellDoubles}
 use Rattle.conversion.specs.declared.CellUnits.{CellUnits}
 use Rattle.conversion.specs.declared.Imported.{Imported}
@@ -49,10 +49,6 @@ highUnits k x = scaled roundDown k x
 
 -- ---- the checks
 
--- 9: the scale is at most 30
-unfoldable pub checkScale : ℕ → Checked
-checkScale k = unless (leb k 30) 9 0
-
 -- 10: the double in a field is finite
 unfoldable pub checkFinite : ℕ → Float → Checked
 checkFinite place x = unless (isFinite x) 10 place
@@ -65,10 +61,9 @@ unfoldable pub checkBound : ℕ → ℤ → Checked
 checkBound place z = unless (leZ (pos 0) z && leZ z (pos maxTotal)) 11 place
 
 -- the place is the field: target 0, low 1, high 2, safe low 3, safe high 4
-unfoldable pub importVerdict : CellDoubles → ℕ → Checked
-importVerdict c k =
-    first
-    (checkScale k
+abbrev pub importChecks : CellDoubles → ℕ → List Checked
+importChecks c k =
+    checkScale k
     ∷ checkFinite 0 (c .target)
     ∷ checkTarget 0 (targetUnits k (c .target))
     ∷ checkFinite 1 (c .low)
@@ -79,7 +74,10 @@ importVerdict c k =
     ∷ checkBound 3 (lowUnits k (c .«safe_low»))
     ∷ checkFinite 4 (c .«safe_high»)
     ∷ checkBound 4 (highUnits k (c .«safe_high»))
-    ∷ [])
+    ∷ []
+
+unfoldable pub importVerdict : CellDoubles → ℕ → Checked
+importVerdict c k = first (importChecks c k)
 
 -- ---- what the checks mean
 
@@ -148,6 +146,17 @@ unfoldable pub importHolds : Imported → List Float
 importHolds (Units u) = []
 importHolds BadScale = []
 importHolds (Refused number field double) = double ∷ []
+
+-- the answer that tells this and holds this
+abbrev pub importHolding : Answered CellUnits → List Float → Imported
+importHolding (accepted u) doubles = Units u
+importHolding (refused number place) [] = BadScale
+importHolding (refused number place) (double ∷ doubles) = Refused number place double
+
+-- the answer that tells this of a cell: a refused double is the one that was passed for the field
+abbrev pub importAnswer : Answered CellUnits → CellDoubles → Imported
+importAnswer (accepted u) c = Units u
+importAnswer (refused number place) c = cond (eqb number 9) BadScale (Refused number place (doubleAt c place))
 
 -- a field's refusal carries the field's double as it came; the scale's, number 9, carries none
 unfoldable pub carried : Checked → CellDoubles → List Float

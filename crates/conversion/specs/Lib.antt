@@ -1,4 +1,3 @@
-pub mod Roundings
 pub mod Import
 pub mod Export
 pub mod Trip

@@ -1,6 +1,6 @@
-// Import and Export: doubles to units and units to doubles by IEEE 754. The roundings and what they are, what the operations check and
-// answer, the forms that the code follows, and the laws. Definitions (specs/) and laws (proofs/) alone; the code is in the crate
-// `doubles`. Relies on `numbers`.
+// Import and Export: doubles to units and units to doubles by IEEE 754. What the operations check and answer, the forms that the code
+// follows, and the laws. Definitions (specs/) and laws (proofs/) alone; the code is in the crate `doubles`. Relies on `numbers`, where
+// the roundings stand.
 
 // The five doubles of a cell.
 pub struct CellDoubles {

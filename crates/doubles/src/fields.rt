@@ -2,7 +2,7 @@
 ghost use mathlib.Core.Path.{_≡_};
 ghost use Prim.Native.Nat.{_*_, _^_, _≤_, _<_};
 ghost use lib.IntN.{pos};
-ghost use Rattle.conversion.specs.Roundings.{signed};
+ghost use Rattle.numbers.specs.Roundings.{signed};
 ghost use Rattle.conversion.specs.Forms.{fraction, product, inTarget, inBound, targetField, lowField, highField};
 use conversion::BoundField;
 use conversion::Product;

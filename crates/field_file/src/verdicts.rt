@@ -4,46 +4,31 @@ ghost use mathlib.Core.List.{[], _∷_};
 ghost use Prim.Native.Nat.{_≤_, _<_, _^_};
 ghost use lib.ListN.{length};
 ghost use Rattle.numbers.specs.declared.Checked.the-variants.{Pass};
-ghost use Rattle.numbers.specs.Checks.{both, first, checkCount};
-ghost use Rattle.blocks.specs.Blocks.{checkSound, checkSpare};
+ghost use Rattle.numbers.specs.Checks.{first};
 ghost use Rattle.qlt.specs.Field.{lists};
-ghost use Rattle.qlt.specs.Checks.{checkNodes};
 ghost use Rattle.formats.specs.FieldFile.{fieldBlocks, fieldUsed};
-ghost use Rattle.formats.specs.ReadField.{fileCells, fileNodes, checkFileLength, checkMark, checkSizes, checkRoom, roomOf, headVerdict, laterVerdict, Measured};
+ghost use Rattle.formats.specs.ReadField.{checkFileLength, checkMark, checkSizes, checkRoom, blockChecks, sizeChecks, headVerdict, laterVerdict, Measured};
 use blocks::inner::check_block;
 use blocks::inner::check_sound;
 use blocks::inner::check_spare;
 use blocks::inner::payload_word;
+use blocks::tables::LIST;
+use blocks::tables::table_blocks;
+use blocks::tables::table_used;
 use checks::inner::check_nodes;
+use formats::CELLS;
 use numbers::Checked;
+use numbers::inner::and;
 use numbers::inner::check_count;
 use numbers::inner::check_long;
-use numbers::inner::least;
 use numbers::inner::then;
+use numbers::inner::unless;
 
 // 14: the length is not 0, not over 18432, and a multiple of 512.
 fn check_file_length(l: usize) -> Checked
     ensures { λ r. ⌜ r ≡ checkFileLength l ⌝ }
 {
-    if l == 0 {
-        return Checked::Fail {
-            number: 14,
-            place: 0,
-        };
-    }
-    if 18432 < l {
-        return Checked::Fail {
-            number: 14,
-            place: 0,
-        };
-    }
-    if l % 512 != 0 {
-        return Checked::Fail {
-            number: 14,
-            place: 0,
-        };
-    }
-    Checked::Pass
+    unless(and(0 < l, and(l <= 18432, l % 512 == 0)), 14, 0)
 }
 
 // 16: the first payload word of block 1 is 512.
@@ -51,19 +36,13 @@ fn check_mark(file: &[u8]) -> Checked
     requires { ⌜ 512 ≤ length (now file) ⌝ }
     ensures { λ r. ⌜ r ≡ checkMark (now (file .entry)) ⌝ }
 {
-    if payload_word(file, 1, 0) == 512 {
-        return Checked::Pass;
-    }
-    Checked::Fail {
-        number: 16,
-        place: 1,
-    }
+    unless(payload_word(file, 1, 0) == 512, 16, 1)
 }
 
 // Block 1's number, check words, first word and spare words.
 fn head_block(file: &[u8]) -> Checked
     requires { ⌜ 512 ≤ length (now file) ⌝ }
-    ensures { λ r. ⌜ r ≡ first (checkSound (now (file .entry)) 1 ∷ checkMark (now (file .entry)) ∷ checkSpare (now (file .entry)) 4 1 ∷ []) ⌝ }
+    ensures { λ r. ⌜ r ≡ first (blockChecks (now (file .entry))) ⌝ }
 {
     then(
         check_sound(file, 1),
@@ -71,18 +50,20 @@ fn head_block(file: &[u8]) -> Checked
     )
 }
 
+// How many blocks a file of n cells and m nodes has.
+fn field_blocks(n: usize, m: usize) -> usize
+    requires { ⌜ (n < 2 ^ 32) × (m < 2 ^ 32) ⌝ }
+    ensures { λ r. ⌜ r ≡ fieldBlocks n m ⌝ }
+{
+    1 + table_blocks(CELLS, n) + table_blocks(LIST, m)
+}
+
 // 14: the length is that of n and m.
 fn check_sizes(l: usize, n: usize, m: usize) -> Checked
     requires { ⌜ (n < 2 ^ 32) × (m < 2 ^ 32) ⌝ }
     ensures { λ r. ⌜ r ≡ checkSizes l n m ⌝ }
 {
-    if l == 512 * (1 + (n + 19) / 20 + (m + 124) / 125) {
-        return Checked::Pass;
-    }
-    Checked::Fail {
-        number: 14,
-        place: 0,
-    }
+    unless(l == 512 * field_blocks(n, m), 14, 0)
 }
 
 // 3: each list has room for n or m.
@@ -99,15 +80,13 @@ fn check_room(
 ) -> Checked
     ensures { λ r. ⌜ r ≡ checkRoom n m targets lows highs «safe_lows» «safe_highs» weights parents ⌝ }
 {
-    let bounds = then(
-        check_long(lows, n),
-        then(
-            check_long(highs, n),
-            then(check_long(safe_lows, n), check_long(safe_highs, n)),
-        ),
-    );
     let rest = then(check_long(weights, n), check_long(parents, m));
-    then(check_long(targets, n), then(bounds, rest))
+    let safe = then(
+        check_long(safe_lows, n),
+        then(check_long(safe_highs, n), rest),
+    );
+    let bounds = then(check_long(lows, n), then(check_long(highs, n), safe));
+    then(check_long(targets, n), bounds)
 }
 
 // n, m, the length and the lists.
@@ -122,7 +101,7 @@ fn sizes_verdict(
     parents: &[u32],
 ) -> Checked
     requires { ⌜ 512 ≤ length (now file) ⌝ }
-    ensures { λ r. ⌜ r ≡ first (checkCount (fileCells (now (file .entry))) ∷ checkNodes (fileCells (now (file .entry))) (fileNodes (now (file .entry))) ∷ checkSizes (length (now (file .entry))) (fileCells (now (file .entry))) (fileNodes (now (file .entry))) ∷ roomOf (fileCells (now (file .entry))) (fileNodes (now (file .entry))) (lists (now (targets .entry)) (now (lows .entry)) (now (highs .entry)) (now («safe_lows» .entry)) (now («safe_highs» .entry)) (now (weights .entry)) (now (parents .entry))) ∷ []) ⌝ }
+    ensures { λ r. ⌜ r ≡ first (sizeChecks (now (file .entry)) (lists (now (targets .entry)) (now (lows .entry)) (now (highs .entry)) (now («safe_lows» .entry)) (now («safe_highs» .entry)) (now (weights .entry)) (now (parents .entry)))) ⌝ }
 {
     let n = payload_word(file, 1, 1) as usize;
     let m = payload_word(file, 1, 2) as usize;
@@ -178,11 +157,11 @@ fn field_used(n: usize, m: usize, b: usize) -> usize
     requires { ⌜ (1 < b) × (n ≤ 512) × (m ≤ 1024) × (b ≤ fieldBlocks n m) ⌝ }
     ensures { λ r. ⌜ (r ≡ fieldUsed n m b) × (r ≤ 125) ⌝ }
 {
-    let first = 2 + (n + 19) / 20;
+    let first = 2 + table_blocks(CELLS, n);
     if b < first {
-        6 * least(20, n - 20 * (b - 2))
+        table_used(CELLS, n, b - 2)
     } else {
-        least(125, m - 125 * (b - first))
+        table_used(LIST, m, b - first)
     }
 }
 
@@ -193,10 +172,11 @@ fn later_verdict(file: &[u8]) -> Checked
 {
     let n = payload_word(file, 1, 1) as usize;
     let m = payload_word(file, 1, 2) as usize;
-    let end = 2 + (n + 19) / 20 + (m + 124) / 125;
+    let end = 1 + field_blocks(n, m);
     let mut b: usize = 2;
     while b < end {
-        let checked = check_block(file, field_used(n, m, b), b);
+        let used = field_used(n, m, b);
+        let checked = check_block(file, used, b);
         if let Checked::Fail { number, place } = checked {
             return Checked::Fail { number, place };
         }

@@ -1,6 +1,7 @@
 // What a call answered, and check numbers of the lists after it, as a line of text. A check number starts at 0; each entry in turn makes
 // it 31 times what it was, and the entry, modulo 4294967291. A target counts as its word in two's complement.
 ghost use Prim.Native.Nat.{_<_, _≤_};
+use blocks::inner::signed_word;
 use cases::output::print_named;
 use cases::output::print_number;
 use cases::output::print_refusal;
@@ -8,8 +9,6 @@ use cases::output::wide;
 use formats::AnswerWritten;
 use formats::FieldRead;
 use libc::STDOUT_FILENO;
-use numbers::inner::above;
-use numbers::inner::smaller;
 use numbers::inner::stored_index;
 
 // A byte as a number of 64 bits.
@@ -17,22 +16,6 @@ fn wide_byte(x: u8) -> u64
     ensures { λ r. ⌜ r ≤ 4294967295 ⌝ }
 {
     x as u64
-}
-
-// The word of a number in two's complement.
-fn word_of(x: i64) -> u64
-    ensures { λ r. ⌜ r ≤ 4294967295 ⌝ }
-{
-    if x < 0 {
-        return 4294967295 - smaller(above(-1 - x), 4294967295);
-    }
-    smaller(above(x), 4294967295)
-}
-
-fn wide_target(x: i32) -> u64
-    ensures { λ r. ⌜ r ≤ 4294967295 ⌝ }
-{
-    word_of(x as i64)
 }
 
 // A check number with one entry more.
@@ -48,7 +31,7 @@ fn check_targets(xs: &[i32]) -> u64 {
     let mut check: u64 = 0;
     let mut i: usize = 0;
     while i < xs.len() {
-        check = mixed(check, wide_target(xs[i]));
+        check = mixed(check, wide(signed_word(xs[i])));
         i += 1;
     }
     check

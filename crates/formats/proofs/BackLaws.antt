@@ -2,57 +2,34 @@
 use mathlib.Core.Path.{_≡_, refl, sym, _∙_, ap, ap₂, subst}
 use mathlib.Core.Bool.{Bool, true, false, cond}
 use mathlib.Core.List.{List, [], _∷_}
-use Prim.Native.Nat.{ℕ, zero, suc, _+_, _*_, _-_, _/_, _%_, _^_, _≤_, _<_, min}
-use native.Mathlib.Decide.{decLt}
+use Prim.Native.Nat.{ℕ, zero, suc, _+_, _*_, _-_, _≤_, _<_}
 use native.Mathlib.Omega.{arith}
-use borrow.Author.Tests.{lt-ltb, le-ltb, le-leb, lt-leb}
+use borrow.Author.Tests.{le-leb, lt-leb}
 use lib.Dec.{leb}
-use lib.IntN.{ℤ, pos, negsuc}
-use lib.Signed.{_≤ℤ_}
-use lib.ListN.{length, getD, List·getD-eq-default}
+use lib.IntN.{pos}
+use lib.ListN.{length, getD}
 use lib.Seq.{ext-getD}
 use Rattle.numbers.specs.declared.Checked.the-variants.{Pass}
 use Rattle.numbers.specs.Lists.{at, atℤ, listTo, written}
-use Rattle.numbers.proofs.SignedLaws.{le-rule}
 use Rattle.numbers.proofs.ListLaws.{length-listTo, getD-listTo}
-use Rattle.blocks.specs.Words.{Words}
+use Rattle.blocks.specs.Words.{Words, wordSigned}
 use Rattle.blocks.specs.Blocks.{blockOf, payloadWord, checkBlock, Sound, SpareZero}
-use Rattle.blocks.proofs.BlockLaws.{length-fileBytes, file-word, file-passes}
+use Rattle.blocks.specs.Tables.{tableUsed, listTable}
+use Rattle.blocks.proofs.WordLaws.{signed-back}
+use Rattle.blocks.proofs.BlockLaws.{block-fits}
+use Rattle.blocks.proofs.FileLaws.{length-fileBytes, file-word, file-passes}
+use Rattle.blocks.proofs.TableLaws.{length-tableWords, tableWords-small, table-back, list-fits}
 use Rattle.qlt.specs.Field.{Lists, lists, cells, nodes}
-use Rattle.formats.specs.FieldFile.{cellBlocks, fieldBlocks, targetWord, wordTarget, cellWords, cellBlock, parentBlock, fieldWords, fieldBytes, fieldUsed, cellWord, parentWord}
+use Rattle.formats.specs.FieldFile.{cellTable, cellBlocks, fieldBlocks, cellWords, cellBlock, parentBlock, fieldWords, fieldBytes, fieldUsed, cellWord, parentWord}
 use Rattle.formats.specs.ReadField.{fileCells, fileNodes, fileTotal, Room, HeadFits, sizesOf, listsRead}
 use Rattle.formats.specs.Stored.{Storable, FieldBack}
-use Rattle.formats.proofs.ReadLaws.{used-small, block-fits, read-accepts}
-
--- ---- a target and its word
-
-pub target-back : (z : ℤ) → negsuc 2147483647 ≤ℤ z → z ≤ℤ pos 2147483647 → (wordTarget (targetWord z) ≡ z) × (targetWord z < 2 ^ 32)
-unfolding wordTarget targetWord
-target-back (pos n) l h = (rw (lt-ltb n 2147483648 (omega (arith, le-rule h))), omega (arith, le-rule h))
-target-back (negsuc n) l h =
-    let k : n ≤ 2147483647 = omega (arith, le-rule l) in
-    (rw (le-ltb (4294967295 - n) 2147483648 (omega arith)) (ap negsuc (omega arith)), omega arith)
-
--- ---- the place of a value
-
-same-cell : (i k : ℕ) → k < 6 → 20 * (i / 20) + (6 * (i % 20) + k) / 6 ≡ i
-same-cell i k h = omega arith
-
-same-word : (i k : ℕ) → k < 6 → (6 * (i % 20) + k) % 6 ≡ k
-same-word i k h = omega arith
+use Rattle.formats.proofs.ReadLaws.{cell-fits, used-small, read-accepts}
 
 -- ---- lists by index
 
 -- a list is that of its elements
 list-back {ℓ} : {X : Type ℓ} (l : List X) (d : X) (k : ℕ) (g : ℕ → X) → length l ≡ k → ((i : ℕ) → i < k → g i ≡ getD l i d) → listTo k g ≡ l
 list-back l d k g e h = ext-getD d (listTo k g) l (length-listTo k g ∙ sym e) (λ i m. let n : i < k = omega (arith, length-listTo k g) in getD-listTo k g i d n ∙ h i n)
-
-words-listTo : (k : ℕ) (g : ℕ → ℕ) → ((i : ℕ) → i < k → g i < 2 ^ 32) → Words (listTo k g)
-words-listTo k g h i = go (decLt i k)
-  where
-    go : Dec (i < k) → at (listTo k g) i < 2 ^ 32
-    go (yes l) = rw (getD-listTo k g i 0 l) (h i l)
-    go (no l) = rw (List·getD-eq-default (listTo k g) 0 {n = i} (omega (arith, length-listTo k g))) (omega arith)
 
 -- ---- the words of each block
 
@@ -78,17 +55,17 @@ module _ (f : Lists) (M : ℕ) where
 
   -- as many as the block uses
   count : (b : ℕ) → length (fieldWords f M b) ≡ fieldUsed n m b
-  unfolding fieldWords fieldUsed cellBlock parentBlock
+  unfolding fieldWords fieldUsed
   count b = go (leb b 1) (leb b (1 + cellBlocks n))
     where
-      go : (p q : Bool) → length (cond p (512 ∷ n ∷ m ∷ M ∷ []) (cond q (cellBlock f (b - 2)) (parentBlock f (b - (2 + cellBlocks n))))) ≡ cond p 4 (cond q (6 * min 20 (n - 20 * (b - 2))) (min 125 (m - 125 * (b - (2 + cellBlocks n)))))
+      go : (p q : Bool) → length (cond p (512 ∷ n ∷ m ∷ M ∷ []) (cond q (cellBlock f (b - 2)) (parentBlock f (b - (2 + cellBlocks n))))) ≡ cond p 4 (cond q (tableUsed cellTable n (b - 2)) (tableUsed listTable m (b - (2 + cellBlocks n))))
       go true q = refl
-      go false true = length-listTo _ _
-      go false false = length-listTo _ _
+      go false true = length-tableWords cellTable cell-fits n (λ i j. at (cellWords f i) j) (b - 2)
+      go false false = length-tableWords listTable list-fits m (λ i j. at (f .parents) i) (b - (2 + cellBlocks n))
 
   module _ (g : Storable f M) where
     cell-small : (i : ℕ) → i < n → Words (cellWords f i)
-    cell-small i l zero = target-back (atℤ (f .targets) i) (g .least i l) (g .most i l) .1
+    cell-small i l zero = signed-back (atℤ (f .targets) i) (g .least i l) (g .most i l) .1
     cell-small i l (suc zero) = g .low-words i
     cell-small i l (suc (suc zero)) = g .high-words i
     cell-small i l (suc (suc (suc zero))) = g .safe-low-words i
@@ -104,13 +81,13 @@ module _ (f : Lists) (M : ℕ) where
     head-small (suc (suc (suc (suc k)))) = omega arith
 
     small : (b : ℕ) → Words (fieldWords f M b)
-    unfolding fieldWords cellBlock parentBlock
+    unfolding fieldWords
     small b = go (leb b 1) (leb b (1 + cellBlocks n))
       where
         go : (p q : Bool) → Words (cond p (512 ∷ n ∷ m ∷ M ∷ []) (cond q (cellBlock f (b - 2)) (parentBlock f (b - (2 + cellBlocks n)))))
         go true q = head-small
-        go false true = words-listTo _ _ (λ j l. cell-small (20 * (b - 2) + j / 6) (omega arith) (j % 6))
-        go false false = words-listTo _ _ (λ j l. g .parent-words (125 * (b - (2 + cellBlocks n)) + j))
+        go false true = tableWords-small cellTable cell-fits n (λ i j. at (cellWords f i) j) (λ i j l h. cell-small i l j) (b - 2)
+        go false false = tableWords-small listTable list-fits m (λ i j. at (f .parents) i) (λ i j l h. g .parent-words i) (b - (2 + cellBlocks n))
 
     -- ---- what is read
 
@@ -125,7 +102,7 @@ module _ (f : Lists) (M : ℕ) where
 
     word : (b j : ℕ) → 0 < b → b ≤ blocks → j < 125 → payloadWord file b j ≡ at (fieldWords f M b) j
     unfolding fieldBytes
-    word b j z l h = file-word (fieldWords f M) blocks b j z l (omega (arith, few-blocks)) h (omega (arith, count b, used-small n m b)) (small b)
+    word b j z l h = file-word (fieldWords f M) blocks b j z l (omega (arith, few-blocks)) h (small b)
 
     mark : payloadWord file 1 0 ≡ 512
     unfolding fieldWords
@@ -145,28 +122,21 @@ module _ (f : Lists) (M : ℕ) where
 
     -- word k of cell i
     cell-back : (k i : ℕ) → k < 6 → i < n → cellWord file k i ≡ at (cellWords f i) k
-    unfolding cellWord cellBlock
+    unfolding fieldBytes
     cell-back k i h l =
-        word (2 + i / 20) (6 * (i % 20) + k) (omega arith) (omega arith) (omega arith)
-        ∙ ap (λ x. at x (6 * (i % 20) + k)) (cells-at (i / 20) (omega arith))
-        ∙ getD-listTo _ _ (6 * (i % 20) + k) 0 (omega arith)
-        ∙ ap₂ (λ x y. at (cellWords f x) y) (same-cell i k h) (same-word i k h)
+        table-back cellTable cell-fits n (λ i j. at (cellWords f i) j) (fieldWords f M) blocks 2 i k cells-at (λ i j l h. cell-small i l j) (omega arith) (omega arith) (omega (arith, few-blocks)) l h
 
     parent-back : (i : ℕ) → i < m → parentWord file n i ≡ at (f .parents) i
-    unfolding parentWord parentBlock
+    unfolding fieldBytes
     parent-back i l =
-        let e : 125 * (i / 125) + i % 125 ≡ i = omega arith in
-        word (2 + cellBlocks n + i / 125) (i % 125) (omega arith) (omega arith) (omega arith)
-        ∙ ap (λ x. at x (i % 125)) (parents-at (i / 125))
-        ∙ getD-listTo _ _ (i % 125) 0 (omega arith)
-        ∙ ap (at (f .parents)) e
+        table-back listTable list-fits m (λ i j. at (f .parents) i) (fieldWords f M) blocks (2 + cellBlocks n) i 0 (λ k h. parents-at k) (λ i j l h. g .parent-words i) (omega arith) (omega arith) (omega (arith, few-blocks)) l (omega arith)
 
     -- each list
     column : (k : ℕ) (l : List ℕ) → k < 6 → length l ≡ n → ((i : ℕ) → at (cellWords f i) k ≡ at l i) → listTo (fileCells file) (cellWord file k) ≡ l
     column k l h e r = rw cells-back (list-back l 0 n (cellWord file k) e (λ i j. cell-back k i h j ∙ r i))
 
-    targets-back : listTo (fileCells file) (λ i. wordTarget (cellWord file 0 i)) ≡ f .targets
-    targets-back = rw cells-back (list-back (f .targets) (pos 0) n (λ i. wordTarget (cellWord file 0 i)) refl (λ i l. ap wordTarget (cell-back 0 i (omega arith) l) ∙ target-back (atℤ (f .targets) i) (g .least i l) (g .most i l) .0))
+    targets-back : listTo (fileCells file) (λ i. wordSigned (cellWord file 0 i)) ≡ f .targets
+    targets-back = rw cells-back (list-back (f .targets) (pos 0) n (λ i. wordSigned (cellWord file 0 i)) refl (λ i l. ap wordSigned (cell-back 0 i (omega arith) l) ∙ signed-back (atℤ (f .targets) i) (g .least i l) (g .most i l) .0))
 
     parents-back : listTo (fileNodes file) (parentWord file (fileCells file)) ≡ f .parents
     parents-back = rw (cells-back, nodes-back) (list-back (f .parents) 0 m (parentWord file n) refl parent-back)
@@ -182,7 +152,7 @@ module _ (f : Lists) (M : ℕ) where
       passes b z l = file-passes (fieldWords f M) (fieldUsed (fileCells file) (fileNodes file)) blocks b z l (omega (arith, few-blocks)) (used-small (fileCells file) (fileNodes file) b) (used-back b) (small b)
 
       fits : (b : ℕ) → 0 < b → b ≤ blocks → Sound (blockOf file b) b × SpareZero file (fieldUsed (fileCells file) (fileNodes file) b) b
-      fits b z l = block-fits file s b .0 (passes b z l)
+      fits b z l = block-fits file (fieldUsed (fileCells file) (fileNodes file)) b (used-small _ _ b) .0 (passes b z l)
 
       inside : (b : ℕ) → b ≤ fieldBlocks (fileCells file) (fileNodes file) → b ≤ blocks
       inside b l = subst (λ x. b ≤ x) (ap₂ fieldBlocks cells-back nodes-back) l

@@ -1,38 +1,44 @@
 -- What reading's verdict means, that an answer tells its verdict and its values and nothing else, and what the contract alone says of a
 -- call. Assumes nothing.
-use mathlib.Core.Path.{_≡_, sym, _∙_, ap, subst}
-use mathlib.Core.Logic.{_↔_}
+use mathlib.Core.Path.{_≡_, refl, sym, _∙_, ap, subst}
+use mathlib.Core.Logic.{_↔_, inl, inr, ⊎-elim}
 use mathlib.Core.Bool.{Bool, true, false, cond, _&&_}
-use mathlib.Core.List.{List}
-use Prim.Native.Nat.{ℕ, _+_, _*_, _-_, _%_, _≤_, _<_, min}
+use mathlib.Core.List.{List, [], _∷_}
+use Prim.Native.Nat.{ℕ, zero, suc, _+_, _*_, _-_, _%_, _≤_, _<_}
 use native.Mathlib.Omega.{arith}
 use lib.Dec.{leb}
 use lib.ListN.{length}
 use Rattle.numbers.specs.declared.Checked.{Checked}
 use Rattle.numbers.specs.declared.Checked.the-variants.{Pass, Fail}
-use Rattle.numbers.specs.Checks.{checkLong, after, unless, both, Decides, rule, ruleFor, inOrder, Holds, Broken}
-use Rattle.numbers.proofs.TestLaws.{and-means, lt-means, le-means, eq-means}
+use Rattle.numbers.specs.Checks.{checkLong, after, unless, both, Rule, Decides, rule, ruleFor, Holds, Broken, DecidesAll, rulesFrom, numbersOf, OneOf, RefuseWith}
+use Rattle.numbers.proofs.TestLaws.{and-means, lt-means, le-means, eq-means, injective}
 use Rattle.numbers.proofs.CheckLaws.{on, both-first, both-second, both-pass, unless-and, each-passes, answered-accepted, answered-refused, decides-for, decides-unless, decides-then, decides-none, decides-append, decides-each, count-decides}
+use Rattle.numbers.proofs.ChainLaws.{one-append, numbers-append, refuse-with}
 use Rattle.blocks.specs.Blocks.{blockOf, payloadWord, checkBlock, Sound, SpareZero, blockRules}
-use Rattle.blocks.proofs.BlockLaws.{sound-decides, spare-decides, block-decides}
+use Rattle.blocks.specs.Tables.{tableUsed, TableFits, listTable}
+use Rattle.blocks.proofs.BlockLaws.{sound-decides, spare-decides, block-decides, block-fits}
+use Rattle.blocks.proofs.TableLaws.{tableUsed-small, list-fits}
 use Rattle.qlt.specs.Field.{Lists}
 use Rattle.qlt.proofs.CheckLaws.{nodes-decides}
 use Rattle.formats.specs.declared.FieldRead.{FieldRead}
 use Rattle.formats.specs.declared.FieldRead.the-variants.{Read, Refused}
-use Rattle.formats.specs.FieldFile.{cellBlocks, fieldBlocks, fieldUsed}
-use Rattle.formats.specs.ReadField.{fileCells, fileNodes, fileTotal, checkFileLength, checkMark, checkSizes, checkRoom, roomOf, headVerdict, laterVerdict, readVerdict, Room, headRules, laterRules, readRules, HeadFits, Measured, ReadFits, Sizes, sizesOf, readTells, listsRead, ReadContract}
+use Rattle.formats.specs.FieldFile.{cellTable, cellBlocks, fieldBlocks, fieldUsed}
+use Rattle.formats.specs.ReadField.{fileCells, fileNodes, fileTotal, checkFileLength, checkMark, checkSizes, checkRoom, roomOf, headVerdict, laterVerdict, readVerdict, Room, headRules, laterRules, readRules, HeadFits, Measured, ReadFits, Sizes, sizesOf, readTells, fieldReadOf, listsRead, ReadContract}
 
 -- ---- each check
+
+pub cell-fits : TableFits cellTable
+cell-fits = record { some-words = omega arith; some-records = omega arith; payload = omega arith }
 
 -- no block uses more words than its payload has
 pub used-small : (n m b : ℕ) → fieldUsed n m b ≤ 125
 unfolding fieldUsed
 used-small n m b = go (leb b 1) (leb b (1 + cellBlocks n))
   where
-    go : (p q : Bool) → cond p 4 (cond q (6 * min 20 (n - 20 * (b - 2))) (min 125 (m - 125 * (b - (2 + cellBlocks n))))) ≤ 125
+    go : (p q : Bool) → cond p 4 (cond q (tableUsed cellTable n (b - 2)) (tableUsed listTable m (b - (2 + cellBlocks n)))) ≤ 125
     go true q = omega arith
-    go false true = omega arith
-    go false false = omega arith
+    go false true = tableUsed-small cellTable cell-fits n (b - 2)
+    go false false = tableUsed-small listTable list-fits m (b - (2 + cellBlocks n))
 
 pub length-decides : (l : ℕ) → Decides (checkFileLength l) (rule 14 ((0 < l) × ((l ≤ 18432) × (l % 512 ≡ 0))))
 unfolding checkFileLength
@@ -87,7 +93,7 @@ module _ (file : List ℕ) (s : Lists) where
   abbrev k : ℕ
   k = fieldBlocks n m
 
-  pub head-decides : Decides (headVerdict file s) (inOrder (headRules file s))
+  pub head-decides : DecidesAll (headVerdict file s) (headRules file s)
   unfolding headVerdict headRules
   head-decides =
       decides-then _ _ _ _ (length-decides (length file))
@@ -99,7 +105,7 @@ module _ (file : List ℕ) (s : Lists) where
       (decides-then _ _ _ _ (sizes-decides (length file) n m)
       (decides-then _ _ _ _ (room-decides n m s) decides-none)))))))
 
-  later-decides : Decides (laterVerdict file) (inOrder (laterRules file))
+  later-decides : DecidesAll (laterVerdict file) (laterRules file)
   unfolding laterVerdict laterRules
   later-decides = decides-each (checkBlock file (fieldUsed n m)) (blockRules file (fieldUsed n m)) (λ b. block-decides file (fieldUsed n m) b (used-small n m b)) 2 (k - 1)
 
@@ -108,8 +114,8 @@ module _ (file : List ℕ) (s : Lists) where
   chain = ap (both (headVerdict file s)) (both-pass (laterVerdict file))
 
   -- accepted if every rule holds; refused with a number at a place if those before it hold and this one is broken there
-  pub read-decides : Decides (readVerdict file s) (inOrder (readRules file s))
-  read-decides = subst (λ v. Decides v (inOrder (readRules file s))) (sym chain) (decides-append _ _ (headRules file s) (laterRules file) head-decides later-decides)
+  pub read-decides : DecidesAll (readVerdict file s) (readRules file s)
+  read-decides = subst (λ v. DecidesAll v (readRules file s)) (sym chain) (decides-append _ _ (headRules file s) (laterRules file) head-decides later-decides)
 
   head-rules : Holds (headRules file s) ↔ HeadFits file s
   unfolding headRules Holds
@@ -141,18 +147,14 @@ module _ (file : List ℕ) (s : Lists) where
   pub head-room : HeadFits file s → Room (fileCells file) (fileNodes file) s
   head-room f = f .room
 
-  -- a later block passes if it is sound and its spare words are 0
-  pub block-fits : (b : ℕ) → (checkBlock file (fieldUsed n m) b ≡ Pass) ↔ (Sound (blockOf file b) b × SpareZero file (fieldUsed n m b) b)
-  unfolding Holds
-  block-fits b =
-      let d = block-decides file (fieldUsed n m) b (used-small n m b) in
-      (λ e. let h = d .passes .0 e in (h .0, h .1 .0), λ h. d .passes .1 (h .0, (h .1, tt)))
+  fits : (b : ℕ) → (checkBlock file (fieldUsed n m) b ≡ Pass) ↔ (Sound (blockOf file b) b × SpareZero file (fieldUsed n m b) b)
+  fits b = block-fits file (fieldUsed n m) b (used-small n m b)
 
   later-accepts : (laterVerdict file ≡ Pass) ↔ ((b : ℕ) → 2 ≤ b → b ≤ k → Sound (blockOf file b) b × SpareZero file (fieldUsed n m b) b)
   unfolding laterVerdict
   later-accepts =
       let t = each-passes (checkBlock file (fieldUsed n m)) 2 (k - 1) in
-      (λ e b l h. block-fits b .0 (t .0 e b l (omega arith)), λ f. t .1 (λ b l h. block-fits b .1 (f b l (omega arith))))
+      (λ e b l h. fits b .0 (t .0 e b l (omega arith)), λ f. t .1 (λ b l h. fits b .1 (f b l (omega arith))))
 
   pub read-accepts : (readVerdict file s ≡ Pass) ↔ ReadFits file s
   read-accepts = (
@@ -166,17 +168,41 @@ module _ (file : List ℕ) (s : Lists) where
   pub read-refuses : (number place : ℕ) → (readVerdict file s ≡ Fail number place) ↔ Broken (readRules file s) number place
   read-refuses = read-decides .fails
 
+-- ---- the numbers
+
+-- rules of places in turn refuse with numbers that the rules of each place refuse with
+each-number : (rules : ℕ → List Rule) (ns : List ℕ) (n : ℕ) → ((i : ℕ) → OneOf (numbersOf (rules i)) n → OneOf ns n) → (i k : ℕ) → OneOf (numbersOf (rulesFrom rules i k)) n → OneOf ns n
+unfolding rulesFrom OneOf
+each-number rules ns n h i zero o = absurd o
+each-number rules ns n h i (suc k) o =
+    let p = subst (λ l. OneOf l n) (numbers-append (rules i) (rulesFrom rules (suc i) k)) o in
+    ⊎-elim (h i) (each-number rules ns n h (suc i) k) (one-append (numbersOf (rules i)) (numbersOf (rulesFrom rules (suc i) k)) n .0 p)
+
+later-number : (n : ℕ) → OneOf (15 ∷ 16 ∷ []) n → OneOf (14 ∷ 15 ∷ 16 ∷ 1 ∷ 2 ∷ 3 ∷ []) n
+unfolding OneOf
+later-number n o = ⊎-elim (λ e. inr (inl e)) (λ p. ⊎-elim (λ e. inr (inr (inl e))) absurd p) o
+
+pub read-numbers : (file : List ℕ) (s : Lists) → RefuseWith (readRules file s) (14 ∷ 15 ∷ 16 ∷ 1 ∷ 2 ∷ 3 ∷ [])
+unfolding headRules laterRules
+read-numbers file s n =
+    let h = refuse-with (headRules file s) (14 ∷ 15 ∷ 16 ∷ 1 ∷ 2 ∷ 3 ∷ []) refl refl n in
+    let a = one-append (numbersOf (headRules file s)) (numbersOf (laterRules file)) n in
+    let e = numbers-append (headRules file s) (laterRules file) in
+    let used = fieldUsed (fileCells file) (fileNodes file) in (
+      λ o. ⊎-elim (h .0) (each-number (blockRules file used) _ n (λ b. later-number n) 2 _) (a .0 (subst (λ l. OneOf l n) e o)),
+      λ o. subst (λ l. OneOf l n) (sym e) (a .1 (inl (h .1 o))),
+    )
+
 -- ---- the answer
 
 -- what an answer tells is the answer
+read-of : (a : FieldRead) → fieldReadOf (readTells a) ≡ a
+unfolding readTells fieldReadOf
+read-of (Read n m M) = refl
+read-of (Refused number place) = refl
+
 pub read-tells-injective : (a b : FieldRead) → readTells a ≡ readTells b → a ≡ b
-unfolding readTells
-read-tells-injective (Read c d t) (Read i j u) e =
-    let r = answered-accepted Pass (record { cells = c; nodes = d; total = t }) (record { cells = i; nodes = j; total = u }) e .1 in
-    cc (ap (λ (z : Sizes). z .cells) r, ap (λ (z : Sizes). z .nodes) r, ap (λ (z : Sizes). z .total) r)
-read-tells-injective (Read c d t) (Refused i j) e = let z : _≡_ {A = ℕ} 0 1 = cc in absurd (omega arith)
-read-tells-injective (Refused c p) (Read i j u) e = let z : _≡_ {A = ℕ} 0 1 = cc in absurd (omega arith)
-read-tells-injective (Refused c p) (Refused i j) e = cc
+read-tells-injective = injective fieldReadOf read-of
 
 -- ---- from the contract alone
 

@@ -1,29 +1,27 @@
 -- What writing's verdict means, that an answer tells its verdict and its length and nothing else, and how the file grows block by block.
 -- Assumes nothing.
-use mathlib.Core.Path.{_≡_, refl, sym, _∙_, ap}
+use mathlib.Core.Path.{_≡_, refl, _∙_, ap}
 use mathlib.Core.Logic.{_↔_}
-use mathlib.Core.List.{List, _++_}
-use Prim.Native.Nat.{ℕ, suc, _+_, _*_, _-_, _≤_, min}
+use mathlib.Core.List.{List, [], _∷_}
+use Prim.Native.Nat.{ℕ, _+_, _*_, _-_, _≤_}
 use native.Mathlib.Omega.{arith}
-use lib.ListN.{length, take, drop, length-take, length-drop}
-use lib.Seq.{length-take-le, getD-take, ext-getD}
+use lib.ListN.{length, take}
+use lib.Seq.{length-take-le, getD-take}
 use borrow.Author.Tests.{lt-leb}
 use Rattle.numbers.specs.declared.Checked.the-variants.{Pass, Fail}
 use Rattle.numbers.specs.Sums.{ℕ-adds, sumTo}
-use Rattle.numbers.specs.Lists.{at, written}
-use Rattle.numbers.specs.Checks.{Decides, rule, ruleFor, inOrder, Holds, Broken}
-use Rattle.numbers.proofs.TestLaws.{and-means, le-means, eq-means}
+use Rattle.numbers.specs.Lists.{at, written, sum}
+use Rattle.numbers.specs.Checks.{Decides, rule, ruleFor, Holds, Broken, DecidesAll, RefuseWith}
+use Rattle.numbers.proofs.TestLaws.{and-means, le-means, eq-means, injective}
 use Rattle.numbers.proofs.SumLaws.{sumTo-ext}
-use Rattle.numbers.proofs.ListLaws.{length-listTo, getD-listTo}
-use Rattle.numbers.proofs.PartLaws.{getD-part, written-on}
 use Rattle.numbers.proofs.CheckLaws.{decides-for, decides-unless, decides-then, decides-none, count-decides}
+use Rattle.numbers.proofs.ChainLaws.{refuse-with}
 use Rattle.blocks.specs.Blocks.{blockBytes, fileBytes}
-use Rattle.blocks.proofs.BlockLaws.{length-fileBytes}
+use Rattle.blocks.proofs.FileLaws.{file-next}
 use Rattle.qlt.specs.declared.Repair.{Repair}
-use Rattle.qlt.specs.Checks.{sum}
 use Rattle.formats.specs.declared.AnswerWritten.{AnswerWritten}
 use Rattle.formats.specs.declared.AnswerWritten.the-variants.{Bytes, Refused}
-use Rattle.formats.specs.WriteAnswer.{massBlocks, answerBlocks, answerHead, massBlock, answerWords, answerBytes, WriteCall, checkSpace, checkOutcome, checkMasses, writeVerdict, writeRules, WriteFits, writeTells}
+use Rattle.formats.specs.WriteAnswer.{massBlocks, answerBlocks, answerHead, massBlock, answerWords, answerBytes, WriteCall, checkSpace, checkOutcome, checkMasses, writeVerdict, writeRules, WriteFits, writeTells, answerWrittenOf}
 
 -- ---- each check
 
@@ -43,7 +41,7 @@ masses-decides n masses M = decides-unless _ 12 (eq-means (sumTo ℕ-adds n (at 
 
 module _ (c : WriteCall) where
   -- accepted if every rule holds; refused with a number at a place if those before it hold and this one is broken there
-  pub write-decides : Decides (writeVerdict c) (inOrder (writeRules c))
+  pub write-decides : DecidesAll (writeVerdict c) (writeRules c)
   unfolding writeVerdict writeRules
   write-decides =
       decides-then _ _ _ _ (count-decides (c .cells))
@@ -64,27 +62,22 @@ module _ (c : WriteCall) where
   pub write-refuses : (number place : ℕ) → (writeVerdict c ≡ Fail number place) ↔ Broken (writeRules c) number place
   write-refuses = write-decides .fails
 
+  pub write-numbers : RefuseWith (writeRules c) (1 ∷ 3 ∷ 16 ∷ 12 ∷ [])
+  unfolding writeRules
+  write-numbers = refuse-with (writeRules c) (1 ∷ 3 ∷ 16 ∷ 12 ∷ []) refl refl
+
 -- ---- the answer
 
 -- what an answer tells is the answer
+written-of : (a : AnswerWritten) → answerWrittenOf (writeTells a) ≡ a
+unfolding writeTells answerWrittenOf
+written-of (Bytes l) = refl
+written-of (Refused number place) = refl
+
 pub write-tells-injective : (a b : AnswerWritten) → writeTells a ≡ writeTells b → a ≡ b
-unfolding writeTells
-write-tells-injective (Bytes k) (Bytes l) e = cc
-write-tells-injective (Bytes k) (Refused m q) e = let z : _≡_ {A = ℕ} 0 1 = cc in absurd (omega arith)
-write-tells-injective (Refused n p) (Bytes l) e = let z : _≡_ {A = ℕ} 0 1 = cc in absurd (omega arith)
-write-tells-injective (Refused n p) (Refused m q) e = cc
+write-tells-injective = injective answerWrittenOf written-of
 
 -- ---- the file, block by block
-
--- a part of the masses is the words of its block
-pub mass-part : (n k to : ℕ) (masses : List ℕ) → n ≤ length masses → to ≡ min (125 * k + 125) n → take (to - 125 * k) (drop (125 * k) masses) ≡ massBlock n masses k
-unfolding massBlock
-mass-part n k to masses h e =
-    let w : ℕ → ℕ = λ j. at masses (125 * k + j) in
-    let same : to - 125 * k ≡ min 125 (n - 125 * k) = omega arith in
-    let a : length (take (to - 125 * k) (drop (125 * k) masses)) ≡ min 125 (n - 125 * k) = length-take (to - 125 * k) (drop (125 * k) masses) ∙ omega (arith, length-drop (125 * k) masses) in
-    ext-getD 0 _ _ (a ∙ sym (length-listTo (min 125 (n - 125 * k)) w))
-    (λ i l. getD-part (to - 125 * k) (125 * k) masses i 0 (omega (arith, same, a)) ∙ sym (getD-listTo (min 125 (n - 125 * k)) w i 0 (omega (arith, a))))
 
 -- the sum of the first masses
 pub sum-part : (n : ℕ) (masses : List ℕ) → n ≤ length masses → sum (take n masses) ≡ sumTo ℕ-adds n (at masses)
@@ -92,22 +85,13 @@ sum-part n masses h =
     ap (λ k. sumTo ℕ-adds k (at (take n masses))) (length-take-le n masses h)
     ∙ sumTo-ext ℕ-adds n (at (take n masses)) (at masses) (λ i l. getD-take n masses i 0 l)
 
--- a file with one block more
-one-more : (w : ℕ → List ℕ) (k b l : ℕ) (ws : List ℕ) → suc k ≡ b → suc k ≡ l → w b ≡ ws → fileBytes w k ++ blockBytes b ws ≡ fileBytes w l
-unfolding fileBytes
-one-more w k b l ws e f g = ap (λ x. fileBytes w k ++ x) (sym (ap (λ x. blockBytes x (w x)) e ∙ ap (blockBytes b) g)) ∙ ap (fileBytes w) f
-
 module _ (n : ℕ) (r : Repair) (masses : List ℕ) where
-  pub length-answerBytes : length (answerBytes n r masses) ≡ 512 * answerBlocks n
-  unfolding answerBytes
-  length-answerBytes = length-fileBytes (answerWords n r masses) (answerBlocks n)
-
   -- the blocks after the first are those of the masses
-  pub mass-words : (k : ℕ) → answerWords n r masses (k + 2) ≡ massBlock n masses k
+  pub mass-words : (k : ℕ) → answerWords n r masses (2 + k) ≡ massBlock n masses k
   unfolding answerWords
   mass-words k =
-      let e : k + 2 - 2 ≡ k = omega arith in
-      rw (lt-leb (k + 2) 1 (omega arith), e)
+      let e : 2 + k - 2 ≡ k = omega arith in
+      rw (lt-leb (2 + k) 1 (omega arith), e)
 
   -- blocks 1 to the last are the file
   pub answer-end : (k : ℕ) → k ≡ massBlocks n → fileBytes (answerWords n r masses) (1 + k) ≡ answerBytes n r masses
@@ -120,8 +104,8 @@ module _ (d : List ℕ) (n : ℕ) (r : Repair) (masses : List ℕ) where
   unfolding fileBytes answerWords
   answer-start = refl
 
-  pub answer-next : (k : ℕ) → written (written d 0 (fileBytes (answerWords n r masses) (1 + k))) (512 + 512 * k) (blockBytes (k + 2) (massBlock n masses k)) ≡ written d 0 (fileBytes (answerWords n r masses) (1 + (k + 1)))
+  pub answer-next : (k : ℕ) → written (written d 0 (fileBytes (answerWords n r masses) (1 + k))) (512 * (2 + k - 1)) (blockBytes (2 + k) (massBlock n masses k)) ≡ written d 0 (fileBytes (answerWords n r masses) (1 + (k + 1)))
   answer-next k =
       let w : ℕ → List ℕ = answerWords n r masses in
-      written-on d (fileBytes w (1 + k)) (blockBytes (k + 2) (massBlock n masses k)) 0 (512 + 512 * k) (omega arith) (omega (arith, length-fileBytes w (1 + k)))
-      ∙ ap (written d 0) (one-more w (1 + k) (k + 2) (1 + (k + 1)) (massBlock n masses k) (omega arith) (omega arith) (mass-words n r masses k))
+      file-next d w (1 + k) (512 * (2 + k - 1)) (2 + k) (massBlock n masses k) (omega arith) (omega arith) (mass-words n r masses k)
+      ∙ ap (λ b. written d 0 (fileBytes w b)) (omega arith)

@@ -8,10 +8,11 @@ use lib.ListN.{length}
 use Rattle.numbers.specs.declared.Checked.{Checked}
 use Rattle.numbers.specs.Lists.{listTo, written}
 use Rattle.numbers.specs.Checks.{Answered, accepted, refused, answered, after, unless, first, eachFrom, checkCount, checkLong, Rule, rule, ruleFor, rulesFrom}
+use Rattle.blocks.specs.Words.{wordSigned}
 use Rattle.blocks.specs.Blocks.{blockOf, payloadWord, checkSound, checkSpare, checkBlock, Sound, SpareZero, blockRules}
 use Rattle.qlt.specs.Field.{Lists, lists}
 use Rattle.qlt.specs.Checks.{checkNodes}
-use Rattle.formats.specs.FieldFile.{fieldBlocks, fieldUsed, wordTarget, cellWord, parentWord}
+use Rattle.formats.specs.FieldFile.{fieldBlocks, fieldUsed, cellWord, parentWord}
 use Rattle.formats.specs.declared.FieldRead.{FieldRead}
 use Rattle.formats.specs.declared.FieldRead.the-variants.{Read, Refused}
 
@@ -40,43 +41,53 @@ unfoldable pub checkSizes : ℕ → ℕ → ℕ → Checked
 checkSizes l n m = unless (eqb l (512 * fieldBlocks n m)) 14 0
 
 -- 3: each lent list has room for n or m
-unfoldable pub checkRoom : (n m targets lows highs safeLows safeHighs weights parents : ℕ) → Checked
-checkRoom n m targets lows highs safeLows safeHighs weights parents =
-    first
-    (checkLong targets n
+abbrev pub roomChecks : (n m targets lows highs safeLows safeHighs weights parents : ℕ) → List Checked
+roomChecks n m targets lows highs safeLows safeHighs weights parents =
+    checkLong targets n
     ∷ checkLong lows n
     ∷ checkLong highs n
     ∷ checkLong safeLows n
     ∷ checkLong safeHighs n
     ∷ checkLong weights n
     ∷ checkLong parents m
-    ∷ [])
+    ∷ []
+
+unfoldable pub checkRoom : (n m targets lows highs safeLows safeHighs weights parents : ℕ) → Checked
+checkRoom n m targets lows highs safeLows safeHighs weights parents = first (roomChecks n m targets lows highs safeLows safeHighs weights parents)
 
 abbrev pub roomOf : ℕ → ℕ → Lists → Checked
 roomOf n m s =
     checkRoom n m (length (s .targets)) (length (s .lows)) (length (s .highs)) (length (s .safeLows)) (length (s .safeHighs)) (length (s .weights)) (length (s .parents))
 
--- block 1, the sizes and the lists
-unfoldable pub headVerdict : List ℕ → Lists → Checked
-headVerdict file s =
-    first
-    (checkFileLength (length file)
-    ∷ checkSound file 1
-    ∷ checkMark file
-    ∷ checkSpare file 4 1
-    ∷ checkCount (fileCells file)
+-- block 1: 15, then 16 for its first word and for its spare words
+abbrev pub blockChecks : List ℕ → List Checked
+blockChecks file = checkSound file 1 ∷ checkMark file ∷ checkSpare file 4 1 ∷ []
+
+-- n, m, the length and the lists
+abbrev pub sizeChecks : List ℕ → Lists → List Checked
+sizeChecks file s =
+    checkCount (fileCells file)
     ∷ checkNodes (fileCells file) (fileNodes file)
     ∷ checkSizes (length file) (fileCells file) (fileNodes file)
     ∷ roomOf (fileCells file) (fileNodes file) s
-    ∷ [])
+    ∷ []
+
+abbrev pub headChecks : List ℕ → Lists → List Checked
+headChecks file s = checkFileLength (length file) ∷ (blockChecks file ++ sizeChecks file s)
+
+unfoldable pub headVerdict : List ℕ → Lists → Checked
+headVerdict file s = first (headChecks file s)
 
 -- the later blocks in order: 15, then 16
 unfoldable pub laterVerdict : List ℕ → Checked
 laterVerdict file =
     eachFrom (checkBlock file (fieldUsed (fileCells file) (fileNodes file))) 2 (fieldBlocks (fileCells file) (fileNodes file) - 1)
 
+abbrev pub readChecks : List ℕ → Lists → List Checked
+readChecks file s = headVerdict file s ∷ laterVerdict file ∷ []
+
 unfoldable pub readVerdict : List ℕ → Lists → Checked
-readVerdict file s = first (headVerdict file s ∷ laterVerdict file ∷ [])
+readVerdict file s = first (readChecks file s)
 
 -- ---- what the checks mean
 
@@ -147,11 +158,16 @@ unfoldable pub readTells : FieldRead → Answered Sizes
 readTells (Read n m M) = accepted (record { cells = n; nodes = m; total = M })
 readTells (Refused number place) = refused number place
 
+-- the answer that tells it
+unfoldable pub fieldReadOf : Answered Sizes → FieldRead
+fieldReadOf (accepted z) = Read (z .cells) (z .nodes) (z .total)
+fieldReadOf (refused number place) = Refused number place
+
 -- the lists with the file's n cells and m parents at their front; entries past n and m are untouched
 unfoldable pub listsRead : List ℕ → Lists → Lists
 listsRead file s =
     lists
-    (written (s .targets) 0 (listTo (fileCells file) (λ i. wordTarget (cellWord file 0 i))))
+    (written (s .targets) 0 (listTo (fileCells file) (λ i. wordSigned (cellWord file 0 i))))
     (written (s .lows) 0 (listTo (fileCells file) (cellWord file 1)))
     (written (s .highs) 0 (listTo (fileCells file) (cellWord file 2)))
     (written (s .safeLows) 0 (listTo (fileCells file) (cellWord file 3)))

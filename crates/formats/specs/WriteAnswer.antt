@@ -2,14 +2,15 @@
 use mathlib.Core.Path.{_≡_}
 use mathlib.Core.Bool.{_&&_, cond}
 use mathlib.Core.List.{List, [], _∷_}
-use Prim.Native.Nat.{ℕ, _+_, _*_, _-_, _/_, _%_, _^_, _≤_, _<_, min}
+use Prim.Native.Nat.{ℕ, _+_, _*_, _-_, _/_, _%_, _^_, _≤_, _<_}
 use lib.Dec.{leb, eqb}
 use lib.ListN.{length}
 use Rattle.numbers.specs.declared.Checked.{Checked}
 use Rattle.numbers.specs.Sums.{ℕ-adds, sumTo}
-use Rattle.numbers.specs.Lists.{at, listTo, written}
+use Rattle.numbers.specs.Lists.{at, written}
 use Rattle.numbers.specs.Checks.{Answered, accepted, refused, answered, after, unless, first, checkCount, Rule, rule, ruleFor}
 use Rattle.blocks.specs.Blocks.{fileBytes}
+use Rattle.blocks.specs.Tables.{tableBlocks, listTable, listBlock}
 use Rattle.qlt.specs.declared.Repair.{Repair}
 use Rattle.formats.specs.declared.AnswerWritten.{AnswerWritten}
 use Rattle.formats.specs.declared.AnswerWritten.the-variants.{Bytes, Refused}
@@ -18,7 +19,7 @@ use Rattle.formats.specs.declared.AnswerWritten.the-variants.{Bytes, Ref
 
 -- one block, then masses, 125 to a block
 abbrev pub massBlocks : ℕ → ℕ
-massBlocks n = (n + 124) / 125
+massBlocks n = tableBlocks listTable n
 
 abbrev pub answerBlocks : ℕ → ℕ
 answerBlocks n = 1 + massBlocks n
@@ -27,8 +28,8 @@ answerBlocks n = 1 + massBlocks n
 abbrev pub answerHead : ℕ → Repair → List ℕ
 answerHead n r = 512 ∷ n ∷ r .outcome ∷ r .total ∷ r .change % 2 ^ 32 ∷ r .change / 2 ^ 32 ∷ []
 
-unfoldable pub massBlock : ℕ → List ℕ → ℕ → List ℕ
-massBlock n masses k = listTo (min 125 (n - 125 * k)) (λ j. at masses (125 * k + j))
+abbrev pub massBlock : ℕ → List ℕ → ℕ → List ℕ
+massBlock n masses k = listBlock n masses k
 
 unfoldable pub answerWords : ℕ → Repair → List ℕ → ℕ → List ℕ
 answerWords n r masses b = cond (leb b 1) (answerHead n r) (massBlock n masses (b - 2))
@@ -61,14 +62,16 @@ checkOutcome outcome = unless (leb outcome 2) 16 1
 unfoldable pub checkMasses : ℕ → List ℕ → ℕ → Checked
 checkMasses n masses M = unless (eqb (sumTo ℕ-adds n (at masses)) M) 12 0
 
-unfoldable pub writeVerdict : WriteCall → Checked
-writeVerdict c =
-    first
-    (checkCount (c .cells)
+abbrev pub writeChecks : WriteCall → List Checked
+writeChecks c =
+    checkCount (c .cells)
     ∷ checkSpace (c .cells) (length (c .buffer)) (length (c .masses))
     ∷ checkOutcome (c .repair .outcome)
     ∷ checkMasses (c .cells) (c .masses) (c .repair .total)
-    ∷ [])
+    ∷ []
+
+unfoldable pub writeVerdict : WriteCall → Checked
+writeVerdict c = first (writeChecks c)
 
 -- what they mean
 unfoldable pub writeRules : WriteCall → List Rule
@@ -93,6 +96,11 @@ pub record WriteFits (c : WriteCall) : Type 0 where
 unfoldable pub writeTells : AnswerWritten → Answered ℕ
 writeTells (Bytes l) = accepted l
 writeTells (Refused number place) = refused number place
+
+-- the answer that tells it
+unfoldable pub answerWrittenOf : Answered ℕ → AnswerWritten
+answerWrittenOf (accepted l) = Bytes l
+answerWrittenOf (refused number place) = Refused number place
 
 -- the whole contract of the operation: bytes past the file are untouched
 pub record WriteContract (c : WriteCall) (answer : AnswerWritten) (buffer : List ℕ) : Type 0 where

@@ -1,5 +1,13 @@
 // Field files and answer files: their bytes, what reading and writing them checks, answers and leaves, and the laws. Definitions
-// (specs/) and laws (proofs/) alone; the code is in the crates `field_file` and `answer_file`. Relies on `blocks`, `qlt` and `numbers`.
+// (specs/), laws (proofs/), and the types and layouts that the code shares; that is in the crates `field_file` and `answer_file`. Relies
+// on `blocks`, `qlt` and `numbers`.
+use blocks::tables::Table;
+
+// Cells of a field file: 20 to a block, six words each.
+pub const CELLS: Table = Table {
+    words: 6,
+    records: 20,
+};
 
 // What reading a field file answers: the sizes and M, the lists being written; or the refusal.
 pub enum FieldRead {

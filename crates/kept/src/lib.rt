@@ -1,12 +1,14 @@
-// The operations Open and Step on a kept field. Public: `open`, `step`; the checks and the work below them are in modules of their own,
-// for this crate alone. What holds of every run of these calls is proved in `account` (demand 3).
-// Relies on `reconstruct`, `checks`, `account`, `qlt`, `columns`, `caas` and `numbers`.
+// The operations Open and Step on a kept field. Public: `open`, `step`; for the crates above `totals` (12, 13 and the new total) and
+// `accepted` (what an accepted step does). What holds of every run of these calls is proved in `account` (demand 3).
+// Relies on `reconstruct`, `checks`, `account`, `qlt`, `caas` and `numbers`.
 ghost use Rattle.account.specs.Open.{OpenContract};
 ghost use Rattle.account.specs.Step.{stepCall, StepContract};
 ghost use Rattle.qlt.specs.Field.{lists};
 use account::Opened;
 use account::Stepped;
 
+pub mod accepted;
+pub mod totals;
 mod verdicts;
 mod work;
 

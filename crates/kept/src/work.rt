@@ -1,25 +1,14 @@
-// What Open and Step leave and answer, by their verdicts. Relies on `reconstruct`.
+// What Open and Step leave and answer, by their verdicts.
 ghost use mathlib.Core.Path.{_≡_};
-ghost use Prim.Native.Nat.{_<_, _^_};
 ghost use Rattle.qlt.specs.Field.{lists};
 ghost use Rattle.account.specs.Open.{openVerdict, OpenContract};
-ghost use Rattle.account.specs.Step.{stepCall, stepVerdict, StepFits, StepContract};
-ghost use Rattle.kept.specs.Totals.{StepRepaired};
-use crate::verdicts::add_source;
-use crate::verdicts::whole;
+ghost use Rattle.account.specs.Step.{stepCall, stepVerdict, StepContract};
+use crate::accepted::step_on;
 use account::Opened;
 use account::Stepped;
-use checks::inner::sum_of;
 use numbers::Checked;
-use qlt::Repair;
-use reconstruct::inner::repaired;
-
-fn narrow(x: u64) -> u32
-    requires { ⌜ x < 2 ^ 32 ⌝ }
-    ensures { λ r. ⌜ r ≡ x ⌝ }
-{
-    x as u32
-}
+use numbers::inner::narrow;
+use numbers::inner::sum_of;
 
 // Open's answer, by its verdict.
 pub fn open_by(verdict: Checked, kept: &[u32]) -> Opened
@@ -30,38 +19,6 @@ pub fn open_by(verdict: Checked, kept: &[u32]) -> Opened
         return Opened::Refused { number, place };
     }
     Opened::Total(narrow(sum_of(kept)))
-}
-
-// An accepted step: the masses of its field for the new total replace the kept ones.
-pub fn step_on(
-    total: u32,
-    kept: &mut [u32],
-    source: i32,
-    targets: &[i32],
-    lows: &[u32],
-    highs: &[u32],
-    safe_lows: &[u32],
-    safe_highs: &[u32],
-    weights: &[u32],
-    parents: &[u32],
-    scratch: &mut [i64],
-) -> Repair
-    requires { ⌜ StepFits (stepCall total (now kept) source (lists (now targets) (now lows) (now highs) (now «safe_lows») (now «safe_highs») (now weights) (now parents)) (now scratch)) ⌝ }
-    ensures { λ r. ⌜ StepRepaired (stepCall total (now (kept .entry)) source (lists (now (targets .entry)) (now (lows .entry)) (now (highs .entry)) (now («safe_lows» .entry)) (now («safe_highs» .entry)) (now (weights .entry)) (now (parents .entry))) (now (scratch .entry))) r (now (kept .exit)) (now (scratch .exit)) ⌝ }
-{
-    let next = add_source(total, source);
-    repaired(
-        targets,
-        lows,
-        highs,
-        safe_lows,
-        safe_highs,
-        weights,
-        parents,
-        whole(next),
-        kept,
-        scratch,
-    )
 }
 
 // What a step leaves and answers, by its verdict: a refused one leaves the lists as they were.

@@ -1,8 +1,8 @@
 // The program: a field file on standard input, its listing or the line of its refusal on standard output. At most 18433 bytes are read, one
-// more than the largest file has, so that a longer one is refused. Relies on `report` and the kit's `io` and `libc`.
+// more than the largest file has, so that a longer one is refused. Relies on `report`, `text` and the kit's `io` and `libc`.
 use libc::STDIN_FILENO;
 use libc::STDOUT_FILENO;
-use report::Reported;
+use text::Reported;
 
 fn main() {
     let mut file = [0u8; 18433];

@@ -1,26 +1,31 @@
--- When the file call is accepted, and what holds of the masses in its answer: of writing's checks only the buffer's length is left to fail.
+-- What the file call's verdict means: of writing's checks only the buffer's length is left to fail; and what holds of the masses in its answer.
 -- Assumes nothing.
-use mathlib.Core.Path.{_≡_, sym, subst}
-use mathlib.Core.Logic.{_↔_}
-use mathlib.Core.List.{List}
+use mathlib.Core.Path.{_≡_, refl, sym, _∙_, ap, subst}
+use mathlib.Core.Logic.{inl, inr, _↔_}
+use mathlib.Core.List.{List, [], _∷_}
 use Prim.Native.Nat.{ℕ, _*_, _≤_}
 use native.Mathlib.Omega.{arith}
+use lib.Dec.{leb}
 use lib.ListN.{length}
-use Rattle.numbers.specs.declared.Checked.the-variants.{Pass}
+use borrow.Author.Tests.{leb-true, le-leb}
+use Rattle.numbers.specs.declared.Checked.the-variants.{Pass, Fail}
 use Rattle.numbers.specs.Sums.{ℕ-adds, sumTo}
 use Rattle.numbers.specs.Lists.{at}
-use Rattle.numbers.proofs.CheckLaws.{on, last, both-first, both-second}
+use Rattle.numbers.specs.Checks.{unless, both, rule, Broken, DecidesAll, RefuseWith}
+use Rattle.numbers.proofs.TestLaws.{Tested, holds, fails, tested, clash, le-means}
+use Rattle.numbers.proofs.CheckLaws.{on, last, both-first, both-second, decides-unless, decides-then, decides-none, decides-after}
+use Rattle.numbers.proofs.ChainLaws.{refuse-with, refuse-append}
 use Rattle.qlt.specs.Field.{Outcome, attainable, below, above, field, number, outcome}
 use Rattle.qlt.specs.Facts.{FieldFacts}
-use Rattle.qlt.specs.Operation.{Fits, verdict, repair}
-use Rattle.qlt.proofs.OperationLaws.{accepts, fits-facts}
-use Rattle.formats.specs.ReadField.{fileCells, fileTotal, HeadFits, readVerdict}
-use Rattle.formats.specs.WriteAnswer.{answerBlocks, writeCall, writeVerdict, WriteFits}
-use Rattle.formats.proofs.ReadLaws.{read-accepts}
-use Rattle.formats.proofs.WriteLaws.{write-accepts}
-use Rattle.repair_file.specs.RepairFile.{largest, fileLists, fileCall, fileVerdict, fileRepair, fileMasses}
+use Rattle.qlt.specs.Operation.{repair}
+use Rattle.qlt.proofs.OperationLaws.{fits-facts}
+use Rattle.formats.specs.ReadField.{fileCells, fileTotal, HeadFits}
+use Rattle.formats.specs.WriteAnswer.{WriteCall, answerBlocks, writeCall, writeVerdict, writeRules, WriteFits}
+use Rattle.formats.proofs.WriteLaws.{write-accepts, write-refuses}
+use Rattle.repair_file.specs.RepairFile.{largest, fileLists, fileCall, fileVerdict, fileRules, fileRepair, fileMasses}
 use Rattle.repair_file.proofs.FileLaws.{length-cells, length-masses}
-use Rattle.legzhuro_c.specs.Calls.{callVerdict}
+use Rattle.repair_file.proofs.VerdictLaws.{file-decides, file-accepts, file-numbers}
+use Rattle.legzhuro_c.specs.Calls.{callVerdict, callRules, CallFits}
 
 number-small : (o : Outcome) → number o ≤ 2
 unfolding number
@@ -32,17 +37,12 @@ number-small above = omega arith
 
 module _ (file : List ℕ) (e : fileVerdict file ≡ Pass) where
   head-fits : HeadFits file largest
-  unfolding fileVerdict
-  head-fits = read-accepts file largest .0 (both-first (readVerdict file largest) _ e) .head
-
-  call-fits : Fits (fileCall file)
-  unfolding fileVerdict
-  call-fits = accepts (fileCall file) .0 (both-first (verdict (fileCall file)) Pass (both-second (readVerdict file largest) _ e))
+  head-fits = file-accepts file .0 e .read .head
 
   -- all that holds of an accepted field holds of the masses in the answer
   pub file-facts : FieldFacts (field (fileLists file)) (fileTotal file) (fileMasses file)
   unfolding fileMasses
-  file-facts = fits-facts (fileCall file) call-fits
+  file-facts = fits-facts (fileCall file) (file-accepts file .0 e .repair)
 
   outcome-small : fileRepair file .outcome ≤ 2
   unfolding fileRepair repair
@@ -66,13 +66,52 @@ module _ (file : List ℕ) (e : fileVerdict file ≡ Pass) where
 
 -- ---- the call
 
-pub call-accepts : (file answer : List ℕ) → (callVerdict file answer ≡ Pass) ↔ ((fileVerdict file ≡ Pass) × (512 * answerBlocks (fileCells file) ≤ length answer))
-unfolding callVerdict
-call-accepts file answer =
-    let w = writeCall (fileCells file) (fileRepair file) (fileMasses file) answer in (
-      λ e. (
-        both-first (fileVerdict file) _ e,
-        write-accepts w .0 (both-first (writeVerdict w) Pass (both-second (fileVerdict file) _ e)) .space,
-      ),
-      λ h. sym (on (h .0) (last (writeVerdict w) (sym (write-accepts w .1 (answer-fits file (h .0) answer (h .1)))))),
-    )
+module _ (file answer : List ℕ) where
+  abbrev w : WriteCall
+  w = writeCall (fileCells file) (fileRepair file) (fileMasses file) answer
+
+  -- the buffer is long enough
+  abbrev Space : Type 0
+  Space = 512 * answerBlocks (fileCells file) ≤ length answer
+
+  -- past reading and Reconstruct, writing asks for nothing else
+  space-is : fileVerdict file ≡ Pass → writeVerdict w ≡ unless (leb (512 * answerBlocks (fileCells file)) (length answer)) 3 0
+  space-is e = go (tested (leb (512 * answerBlocks (fileCells file)) (length answer)))
+    where
+      broken : (Space → ⊥) → Broken (writeRules w) 3 0
+      broken n = unfold writeRules Broken in (inr ((head-fits file e .some, head-fits file e .few), inl (refl, (refl, λ x. n (x .0)))))
+
+      go : Tested (leb (512 * answerBlocks (fileCells file)) (length answer)) → writeVerdict w ≡ unless (leb (512 * answerBlocks (fileCells file)) (length answer)) 3 0
+      go (holds t) = write-accepts w .1 (answer-fits file e answer (leb-true _ _ t)) ∙ sym (ap (λ b. unless b 3 0) t)
+      go (fails t) = write-refuses w 3 0 .1 (broken (λ h. clash (le-leb _ _ h) t)) ∙ sym (ap (λ b. unless b 3 0) t)
+
+  space-decides : fileVerdict file ≡ Pass → DecidesAll (both (writeVerdict w) Pass) (rule 3 Space ∷ [])
+  space-decides e =
+      subst (λ v. DecidesAll (both v Pass) (rule 3 Space ∷ [])) (sym (space-is e))
+      (decides-then _ Pass (rule 3 Space) [] (decides-unless _ 3 (le-means (512 * answerBlocks (fileCells file)) (length answer))) decides-none)
+
+  -- accepted if every rule holds; refused with a number at a place if those before it hold and this one is broken there
+  pub call-decides : DecidesAll (callVerdict file answer) (callRules file answer)
+  unfolding callVerdict
+  call-decides = decides-after (fileVerdict file) (both (writeVerdict w) Pass) (fileRules file) (rule 3 Space ∷ []) (file-decides file) space-decides
+
+  pub call-refuses : (number place : ℕ) → (callVerdict file answer ≡ Fail number place) ↔ Broken (callRules file answer) number place
+  call-refuses = call-decides .fails
+
+  pub call-accepts : (callVerdict file answer ≡ Pass) ↔ CallFits file answer
+  unfolding callVerdict
+  call-accepts = (
+    λ e.
+        record {
+          file-fits = file-accepts file .0 (both-first (fileVerdict file) _ e);
+          space = write-accepts w .0 (both-first (writeVerdict w) Pass (both-second (fileVerdict file) _ e)) .space;
+        },
+    λ h.
+        let f = file-accepts file .1 (h .file-fits) in
+        sym (on f (last (writeVerdict w) (sym (write-accepts w .1 (answer-fits file f answer (h .space)))))),
+  )
+
+  -- it refuses with 01's numbers and no others
+  pub call-numbers : RefuseWith (callRules file answer) (14 ∷ 15 ∷ 16 ∷ 1 ∷ 2 ∷ 3 ∷ 4 ∷ 5 ∷ 6 ∷ 7 ∷ 8 ∷ [])
+  call-numbers =
+      refuse-append (fileRules file) (rule 3 Space ∷ []) _ (3 ∷ []) _ (file-numbers file) (refuse-with (rule 3 Space ∷ []) (3 ∷ []) refl refl) refl refl

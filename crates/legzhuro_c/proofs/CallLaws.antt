@@ -1,5 +1,5 @@
 -- From an operation's contract to what its call returns and writes, accepted or refused. Assumes nothing.
-use mathlib.Core.Path.{_≡_, refl, sym, _∙_, ap}
+use mathlib.Core.Path.{_≡_, refl, sym, _∙_, ap, subst}
 use mathlib.Core.List.{List, [], _∷_}
 use Prim.Native.Nat.{ℕ, _+_, _*_, _≤_, _<_, _^_}
 use borrow.Author.Tests.{le-leb, lt-leb}
@@ -8,24 +8,23 @@ use lib.ListN.{length}
 use lib.Ieee.{Float}
 use Rattle.numbers.specs.declared.Checked.{Checked}
 use Rattle.numbers.specs.declared.Checked.the-variants.{Pass, Fail}
-use Rattle.numbers.specs.Lists.{written}
+use Rattle.numbers.specs.Lists.{written, sum}
 use Rattle.numbers.specs.Checks.{refused, after, both, first, checkCount, checkLong}
-use Rattle.numbers.proofs.CheckLaws.{answered-accepted, answered-refused, both-pass, both-first, both-second, long-decides}
-use Rattle.columns.specs.Columns.{width}
+use Rattle.numbers.proofs.CheckLaws.{answered-accepted, answered-refused, after-pass, after-fail, both-pass, both-first, both-second, long-decides}
 use Rattle.caas.specs.declared.SplitAnswer.{SplitAnswer}
 use Rattle.caas.specs.declared.SplitAnswer.the-variants as split
 use Rattle.caas.specs.Operation.{SplitCall, splitVerdict, splitTells, SplitContract}
 use Rattle.qlt.specs.declared.Repair.{Repair}
-use Rattle.qlt.specs.Field.{cells, nodes, field}
-use Rattle.qlt.specs.Masses.{treeMasses}
-use Rattle.qlt.specs.Checks.{sum, checkNodes}
-use Rattle.qlt.specs.Operation.{repair, cleared}
+use Rattle.qlt.specs.Field.{cells, nodes}
+use Rattle.qlt.specs.Checks.{checkNodes}
+use Rattle.qlt.specs.Operation.{repair, Leaves}
+use Rattle.qlt.proofs.OperationLaws.{contract-refused}
 use Rattle.account.specs.declared.Opened.{Opened}
 use Rattle.account.specs.declared.Opened.the-variants as opened
 use Rattle.account.specs.declared.Stepped.{Stepped}
 use Rattle.account.specs.declared.Stepped.the-variants as stepped
 use Rattle.account.specs.Open.{openVerdict, openTells, OpenContract}
-use Rattle.account.specs.Step.{StepCall, newTotal, stepVerdict, stepTells, StepContract}
+use Rattle.account.specs.Step.{StepCall, newTotal, repairCall, stepVerdict, stepTells, StepContract}
 use Rattle.conversion.specs.declared.CellDoubles.{CellDoubles}
 use Rattle.conversion.specs.declared.CellUnits.{CellUnits}
 use Rattle.conversion.specs.declared.Imported.{Imported}
@@ -44,12 +43,6 @@ module _ {v : Checked} where
 
   returned-fail : {r number place : ℕ} → v ≡ Fail number place → r ≡ number + place * 2 ^ 32 → r ≡ returned v
   returned-fail e z = z ∙ ap returned (sym e)
-
-  after-pass : {X : Type 0} {x new : X} (old : X) → v ≡ Pass → x ≡ new → x ≡ after v new old
-  after-pass {new = new} old e z = z ∙ ap (λ w. after w new old) (sym e)
-
-  after-fail : {X : Type 0} (new old : X) {number place : ℕ} → v ≡ Fail number place → old ≡ after v new old
-  after-fail new old e = ap (λ w. after w new old) (sym e)
 
 pub after-by : {X : Type 0} {v w : Checked} (new old : X) → v ≡ w → after v new old ≡ after w new old
 after-by new old e = ap (λ x. after x new old) e
@@ -130,7 +123,7 @@ module _ (c : StepCall) (answer : List ℕ) where
   pub step-shape-refused : {r number place : ℕ} → stepShape c answer ≡ Fail number place → r ≡ number + place * 2 ^ 32 → StepReturns c answer r (c .kept) (c .scratch) answer
   step-shape-refused e z =
       let v = step-chain ∙ ap (λ w. both w (stepVerdict c)) e in
-      record { returns = returned-fail v z; keeps = after-fail _ (c .kept) v; leaves = after-fail _ (c .scratch) v; writes = after-fail _ answer v }
+      record { returns = returned-fail v z; leaves = contract-refused (repairCall c) v .leaves; writes = after-fail _ answer v }
 
   module _ (e : stepShape c answer ≡ Pass) where
     -- a call that passes them has room for its values
@@ -142,12 +135,9 @@ module _ (c : StepCall) (answer : List ℕ) where
     past-shape : stepCallVerdict c answer ≡ stepVerdict c
     past-shape = step-chain ∙ ap (λ w. both w (stepVerdict c)) e
 
-    module _ {a : Stepped} {kept : List ℕ} {scratch : List ℤ} (p : StepContract c a kept scratch) where
-      keeps-on : kept ≡ after (stepCallVerdict c answer) (treeMasses (field (c .lists)) (newTotal c)) (c .kept)
-      keeps-on = p .keeps ∙ after-by (treeMasses (field (c .lists)) (newTotal c)) (c .kept) (sym past-shape)
-
-      leaves-on : scratch ≡ after (stepCallVerdict c answer) (cleared (width * nodes (c .lists)) (c .scratch)) (c .scratch)
-      leaves-on = p .leaves ∙ after-by (cleared (width * nodes (c .lists)) (c .scratch)) (c .scratch) (sym past-shape)
+    module _ (a : Stepped) {kept : List ℕ} {scratch : List ℤ} (p : StepContract c a kept scratch) where
+      leaves-on : Leaves (stepCallVerdict c answer) (repairCall c) kept scratch
+      leaves-on = subst (λ v. Leaves v (repairCall c) kept scratch) (sym past-shape) (p .leaves)
 
       pub step-done :
           {x : Repair} {r : ℕ} {answer′ : List ℕ} → a ≡ stepped.Accepted x → r ≡ 0 → answer′ ≡ written answer 0 (repairWords x)
@@ -158,7 +148,6 @@ module _ (c : StepCall) (answer : List ℕ) where
           let v = past-shape ∙ t .0 in
           record {
             returns = returned-pass v z;
-            keeps = keeps-on;
             leaves = leaves-on;
             writes = after-pass answer v (w ∙ ap (λ y. written answer 0 (repairWords y)) (t .1));
           }
@@ -167,7 +156,7 @@ module _ (c : StepCall) (answer : List ℕ) where
       unfolding stepTells
       step-refused {number = number} {place = place} s z =
           let v = past-shape ∙ answered-refused (stepVerdict c) (repair (c .lists) (newTotal c)) number place (ap stepTells (sym s) ∙ p .answers) in
-          record { returns = returned-fail v z; keeps = keeps-on; leaves = leaves-on; writes = after-fail _ answer v }
+          record { returns = returned-fail v z; leaves = leaves-on; writes = after-fail _ answer v }
 
 -- ---- Import
 

@@ -1,6 +1,6 @@
 -- Each call has its operation's own contract, read off the return value and the lent list; with a list that is too short it writes
 -- nothing. Assumes nothing.
-use mathlib.Core.Path.{_≡_, refl, sym, _∙_, ap, ap₂}
+use mathlib.Core.Path.{_≡_, refl, sym, _∙_, ap, ap₂, subst}
 use mathlib.Core.Logic.{_⊎_, inl, inr, ⊎-elim}
 use mathlib.Core.Bool.{Bool, true, false, _&&_, cond}
 use mathlib.Core.List.{List, [], _∷_}
@@ -12,28 +12,29 @@ use lib.ListN.{length}
 use lib.Ieee.{Float}
 use Rattle.numbers.specs.declared.Checked.{Checked}
 use Rattle.numbers.specs.declared.Checked.the-variants.{Pass, Fail}
-use Rattle.numbers.specs.Lists.{at, written}
-use Rattle.numbers.specs.Checks.{Answered, accepted, refused, answered, unless, both, checkCount, checkLong, Rule, Broken}
-use Rattle.numbers.proofs.TestLaws.{eq-means}
+use Rattle.numbers.specs.Lists.{at, written, sum}
+use Rattle.numbers.specs.Checks.{Answered, accepted, refused, answered, unless, both, checkCount, checkLong, Rule, rule, DecidesAll, OneOf, RefuseWith}
+use Rattle.numbers.proofs.TestLaws.{eq-means, lt-means, and-means, and-first, and-second}
 use Rattle.numbers.proofs.CheckLaws.{both-pass}
-use Rattle.caas.specs.Operation.{SplitCall, splitVerdict, splitRules, splitTells, SplitContract}
-use Rattle.caas.proofs.OperationLaws.{refuses}
+use Rattle.numbers.proofs.ChainLaws.{fails-number, broken-first}
+use Rattle.caas.specs.Operation.{SplitCall, splitVerdict, splitTells, splitAnswer, SplitContract}
+use Rattle.caas.proofs.OperationLaws.{verdict-decides, split-numbers}
 use Rattle.qlt.specs.declared.Repair.{Repair}
 use Rattle.qlt.specs.Field.{cells, nodes}
-use Rattle.qlt.specs.Checks.{sum, checkNodes, shapeChecks}
-use Rattle.qlt.specs.Operation.{fieldRules, repair}
-use Rattle.account.specs.Open.{openVerdict, openRules, openTells, OpenContract}
-use Rattle.account.specs.Step.{StepCall, newTotal, stepVerdict, stepRules, stepTells, StepContract}
-use Rattle.account.proofs.OpenLaws.{open-refuses}
-use Rattle.account.proofs.StepLaws.{step-refuses}
+use Rattle.qlt.specs.Checks.{checkNodes, checkShape}
+use Rattle.qlt.specs.Operation.{repair, Leaves}
+use Rattle.account.specs.Open.{openVerdict, openTells, openAnswer, OpenContract}
+use Rattle.account.specs.Step.{StepCall, newTotal, repairCall, stepVerdict, stepAnswer, StepContract}
+use Rattle.account.proofs.OpenLaws.{open-decides, open-numbers}
+use Rattle.account.proofs.StepLaws.{step-decides, step-numbers, answer-tells}
 use Rattle.conversion.specs.declared.CellDoubles.{CellDoubles}
 use Rattle.conversion.specs.declared.CellUnits.{CellUnits}
 use Rattle.conversion.specs.declared.Imported.the-variants.{BadScale, Refused}
-use Rattle.conversion.specs.Import.{doubleAt, importVerdict, importRules, importUnits, importTells, importHolds, carried, ImportContract}
-use Rattle.conversion.specs.Export.{exportVerdict, exportRules, exportDouble, exportTells, ExportContract}
-use Rattle.conversion.proofs.ImportLaws.{import-refuses}
-use Rattle.conversion.proofs.ExportLaws.{export-refuses, export-meets}
-use Rattle.legzhuro_c.specs.Calls.{returned, told, SplitReturns, openCallVerdict, OpenReturns, stepCallVerdict, repairWords, StepReturns, importCallVerdict, unitsList, ImportReturns, exportCallVerdict, ExportReturns, splitAnswer, openAnswer, repairIn, stepAnswer, unitsIn, importAnswer, exportAnswer, doubleIn}
+use Rattle.conversion.specs.Import.{doubleAt, importVerdict, importRules, importUnits, importTells, importAnswer, importHolds, carried, ImportContract}
+use Rattle.conversion.specs.Export.{exportVerdict, exportDouble, exportTells, exportAnswer, ExportContract}
+use Rattle.conversion.proofs.ImportLaws.{import-decides, import-refuses, import-numbers}
+use Rattle.conversion.proofs.ExportLaws.{export-decides, export-numbers, export-meets}
+use Rattle.legzhuro_c.specs.Calls.{returned, told, SplitReturns, openCallVerdict, OpenReturns, stepCallVerdict, repairWords, StepReturns, importCallVerdict, unitsList, ImportReturns, exportCallVerdict, ExportReturns, repairIn, unitsIn, doubleIn}
 use Rattle.legzhuro_c.proofs.CallLaws.{after-by, long-passes, long-fails, room, no-room}
 
 -- ---- a return value tells its verdict
@@ -65,31 +66,28 @@ told-own v r x y h e f = ap (λ n. told n x) e ∙ told-returned v x h ∙ same 
     same Pass g = ap accepted (g refl)
     same (Fail number place) g = refl
 
--- ---- what every refusal by rules has, if each rule's own has it
+-- ---- the numbers of an operation, each of which fits
 
-abbrev pub Faults : (ℕ → ℕ → Type 0) → List Rule → Type 0
-Faults Q [] = Unit
-Faults Q (r ∷ rs) = ((number place : ℕ) → r .fault number place → Q number place) × Faults Q rs
+abbrev inWords : List ℕ → Bool
+inWords [] = true
+inWords (n ∷ ns) = (ltb 0 n && ltb n (2 ^ 32)) && inWords ns
 
-pub broken-each : (Q : ℕ → ℕ → Type 0) (rs : List Rule) → Faults Q rs → (number place : ℕ) → Broken rs number place → Q number place
-unfolding Broken
-broken-each Q [] f number place b = absurd b
-broken-each Q (r ∷ rs) f number place b = ⊎-elim (λ x. f .0 number place x) (λ y. broken-each Q rs (f .1) number place (y .1)) b
+one-word : (ns : List ℕ) → inWords ns ≡ true → (n : ℕ) → OneOf ns n → InWord n
+unfolding OneOf
+one-word [] t n o = absurd o
+one-word (k ∷ ks) t n o =
+    ⊎-elim
+    (λ e. rw e (and-means (lt-means 0 k) (lt-means k (2 ^ 32)) .0 (and-first (ltb 0 k && ltb k (2 ^ 32)) (inWords ks) t)))
+    (λ q. one-word ks (and-second (ltb 0 k && ltb k (2 ^ 32)) (inWords ks) t) n q) o
 
-abbrev Words : List Rule → Type 0
-Words = Faults (λ number place. InWord number)
+-- so a verdict whose rules have these numbers is numbered: `numbered ns d w refl`
+numbered : {v : Checked} {rs : List Rule} (ns : List ℕ) → DecidesAll v rs → RefuseWith rs ns → inWords ns ≡ true → Numbered v
+numbered ns d w t n p e = one-word ns t n (w n .0 (fails-number d e))
 
 -- ---- Split
 
-split-words : (c : SplitCall) → Words (splitRules c)
-unfolding splitRules
-split-words c = (
-  λ n p f. omega (arith, f .0 .0),
-  (λ n p f. omega (arith, f .0 .0), (λ n p f. omega (arith, f .0 .0), (λ n p f. omega (arith, f .0 .0), (λ n p f. omega (arith, f .0 .0), (λ n p f. omega (arith, f .0 .0), tt))))),
-)
-
 pub split-numbered : (c : SplitCall) → Numbered (splitVerdict c)
-split-numbered c n p e = broken-each _ (splitRules c) (split-words c) n p (refuses c n p .0 e)
+split-numbered c = numbered _ (verdict-decides c) (split-numbers c) refl
 
 split-tells : (a : Answered Unit) → splitTells (splitAnswer a) ≡ a
 unfolding splitTells
@@ -105,12 +103,8 @@ split-own c r masses q =
 
 -- ---- Open
 
-open-words : (kept : List ℕ) → Words (openRules kept)
-unfolding openRules
-open-words kept = (λ n p f. omega (arith, f .0 .0), (λ n p f. omega (arith, f .0 .0), tt))
-
 pub open-numbered : (kept : List ℕ) → Numbered (openVerdict kept)
-open-numbered kept n p e = broken-each _ (openRules kept) (open-words kept) n p (open-refuses kept n p .0 e)
+open-numbered kept = numbered _ (open-decides kept) (open-numbers kept) refl
 
 open-tells : (a : Answered ℕ) → openTells (openAnswer a) ≡ a
 unfolding openTells
@@ -141,38 +135,8 @@ module _ (kept answer : List ℕ) (r : ℕ) (answer′ : List ℕ) where
 
 -- ---- Step
 
-step-words : (c : StepCall) → Words (stepRules c)
-unfolding fieldRules
-step-words c = (
-  λ n p f. omega (arith, f .0 .0),
-  (
-    λ n p f. omega (arith, f .0 .0),
-    (
-      λ n p f. omega (arith, f .0 .0),
-      (
-        λ n p f. omega (arith, f .0 .0),
-        (
-          λ n p f. omega (arith, f .0 .0),
-          (
-            λ n p f. omega (arith, f .0 .0),
-            (
-              λ n p f. omega (arith, f .0 .0),
-              (λ n p f. omega (arith, f .0 .0), (λ n p f. omega (arith, f .0 .0), (λ n p f. omega (arith, f .0 .0), tt))),
-            ),
-          ),
-        ),
-      ),
-    ),
-  ),
-)
-
 pub step-numbered : (c : StepCall) → Numbered (stepVerdict c)
-step-numbered c n p e = broken-each _ (stepRules c) (step-words c) n p (step-refuses c n p .0 e)
-
-step-tells : (a : Answered Repair) → stepTells (stepAnswer a) ≡ a
-unfolding stepTells
-step-tells (accepted r) = refl
-step-tells (refused number place) = refl
+step-numbered c = numbered _ (step-decides c) (step-numbers c) refl
 
 repair-read : (answer : List ℕ) (x : Repair) → repairIn (written answer 0 (repairWords x)) ≡ x
 unfolding written
@@ -181,7 +145,7 @@ repair-read answer x = refl
 module _ (c : StepCall) (answer : List ℕ) where
   -- with room for its values, the call's verdict is Step's: 1 and 2 stand in it once more
   step-long : 3 ≤ length answer → stepCallVerdict c answer ≡ stepVerdict c
-  unfolding stepCallVerdict stepVerdict shapeChecks
+  unfolding stepCallVerdict stepVerdict checkShape
   step-long h =
       ap (λ w. both (checkCount (cells (c .lists))) (both (checkNodes (cells (c .lists)) (nodes (c .lists))) (both w (both (stepVerdict c) Pass)))) (long-passes (length answer) 3 h)
       ∙ again (checkCount (cells (c .lists))) (checkNodes (cells (c .lists)) (nodes (c .lists))) _ _
@@ -211,17 +175,16 @@ module _ (c : StepCall) (answer : List ℕ) where
         let x = repair (c .lists) (newTotal c) in
         record {
           answers =
-              step-tells (told r (repairIn answer′))
+              answer-tells (told r (repairIn answer′))
               ∙ told-own (stepVerdict c) r (repairIn answer′) x (step-numbered c) (q .returns ∙ ap returned v)
               (λ e. ap repairIn (q .writes ∙ after-by (written answer 0 (repairWords x)) answer (v ∙ e)) ∙ repair-read answer x);
-          keeps = q .keeps ∙ after-by _ (c .kept) v;
-          leaves = q .leaves ∙ after-by _ (c .scratch) v;
+          leaves = subst (λ w. Leaves w (repairCall c) kept scratch) v (q .leaves);
         }
 
     pub step-short : length answer < 3 → StepReturns c answer r kept scratch answer′ → (kept ≡ c .kept) × ((scratch ≡ c .scratch) × (answer′ ≡ answer))
     step-short h q =
         let v = step-no-room h .1 .0 in
-        (q .keeps ∙ after-by _ (c .kept) v, (q .leaves ∙ after-by _ (c .scratch) v, q .writes ∙ after-by _ answer v))
+        (q .leaves .writes ∙ after-by _ (c .kept) v, (q .leaves .clears ∙ after-by _ (c .scratch) v, q .writes ∙ after-by _ answer v))
 
     pub step-short-returns : length answer < 3 → StepReturns c answer r kept scratch answer′ → (r ≡ 1) ⊎ ((r ≡ 2) ⊎ (r ≡ 3))
     step-short-returns h q =
@@ -231,46 +194,13 @@ module _ (c : StepCall) (answer : List ℕ) where
 
 -- ---- Import
 
--- number 9 has the place 0
-abbrev ImportFault : ℕ → ℕ → Type 0
-ImportFault number place = InWord number × (number ≡ 9 → place ≡ 0)
-
-import-faults : (c : CellDoubles) (k : ℕ) → Faults ImportFault (importRules c k)
+-- number 9 has the place 0: no other rule has that number
+import-place : (c : CellDoubles) (k place : ℕ) → importVerdict c k ≡ Fail 9 place → place ≡ 0
 unfolding importRules
-import-faults c k = (
-  λ n p f. (omega (arith, f .0 .0), λ e. f .0 .1),
-  (
-    λ n p f. ten (f .0 .0),
-    (
-      λ n p f. eleven (f .0 .0),
-      (
-        λ n p f. ten (f .0 .0),
-        (
-          λ n p f. eleven (f .0 .0),
-          (
-            λ n p f. ten (f .0 .0),
-            (
-              λ n p f. eleven (f .0 .0),
-              (λ n p f. ten (f .0 .0), (λ n p f. eleven (f .0 .0), (λ n p f. ten (f .0 .0), (λ n p f. eleven (f .0 .0), tt)))),
-            ),
-          ),
-        ),
-      ),
-    ),
-  ),
-)
-  where
-    ten : {n p : ℕ} → n ≡ 10 → ImportFault n p
-    ten e = (omega (arith, e), λ x. absurd (omega (arith, e, x)))
-
-    eleven : {n p : ℕ} → n ≡ 11 → ImportFault n p
-    eleven e = (omega (arith, e), λ x. absurd (omega (arith, e, x)))
-
-import-fault : (c : CellDoubles) (k number place : ℕ) → importVerdict c k ≡ Fail number place → ImportFault number place
-import-fault c k n p e = broken-each ImportFault (importRules c k) (import-faults c k) n p (import-refuses c k n p .0 e)
+import-place c k place e = broken-first (rule 9 (k ≤ 30)) _ 9 refl 9 place refl (import-refuses c k 9 place .0 e) .0
 
 pub import-numbered : (c : CellDoubles) (k : ℕ) → Numbered (importVerdict c k)
-import-numbered c k n p e = import-fault c k n p e .0
+import-numbered c k = numbered _ (import-decides c k) (import-numbers c k) refl
 
 import-tells : (v : Checked) (c : CellDoubles) (u : CellUnits) → ((place : ℕ) → v ≡ Fail 9 place → place ≡ 0) → importTells (importAnswer (answered v u) c) ≡ answered v u
 unfolding importTells
@@ -306,7 +236,7 @@ module _ (c : CellDoubles) (k : ℕ) (units : List ℤ) (r : ℕ) (units′ : Li
       told-own (importVerdict c k) r (unitsIn units′) u (import-numbered c k) (q .returns ∙ ap returned v)
       (λ e. ap unitsIn (q .writes ∙ after-by (written units 0 (unitsList u)) units (v ∙ e)) ∙ units-read units u) in
       record {
-        answers = ap (λ a. importTells (importAnswer a c)) t ∙ import-tells (importVerdict c k) c u (λ place e. import-fault c k 9 place e .1 refl);
+        answers = ap (λ a. importTells (importAnswer a c)) t ∙ import-tells (importVerdict c k) c u (import-place c k);
         carries = ap (λ a. importHolds (importAnswer a c)) t ∙ import-holds (importVerdict c k) c u;
       }
 
@@ -318,12 +248,8 @@ module _ (c : CellDoubles) (k : ℕ) (units : List ℤ) (r : ℕ) (units′ : Li
 
 -- ---- Export
 
-export-words : (mass k : ℕ) → Words (exportRules mass k)
-unfolding exportRules
-export-words mass k = (λ n p f. omega (arith, f .0 .0), (λ n p f. omega (arith, f .0 .0), tt))
-
 pub export-numbered : (mass k : ℕ) → Numbered (exportVerdict mass k)
-export-numbered mass k n p e = broken-each _ (exportRules mass k) (export-words mass k) n p (export-refuses mass k n p .0 e)
+export-numbered mass k = numbered _ (export-decides mass k) (export-numbers mass k) refl
 
 export-tells : (a : Answered Float) → exportTells (exportAnswer a) ≡ a
 unfolding exportTells

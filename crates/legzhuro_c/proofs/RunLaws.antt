@@ -1,34 +1,76 @@
--- Runs of the calls from C are runs of Step, so the theorem about every run (demand 3) holds of them. Assumes nothing.
-use mathlib.Core.Path.{_≡_, sym, ap}
-use mathlib.Core.List.{List, map}
-use Prim.Native.Nat.{ℕ, _≤_}
+-- Runs of the calls from C are runs of Step, so the theorem about every run (demand 3) holds of them. A call whose list for the values is too
+-- short is refused before Step is called, and leaves everything. Assumes nothing.
+use mathlib.Core.Path.{_≡_, refl, sym, _∙_, ap, ap₂, subst}
+use mathlib.Core.Logic.{⊎-elim}
+use mathlib.Core.Bool.{Bool, true, false, cond}
+use mathlib.Core.List.{List, [], _∷_, _++_}
+use Prim.Native.Nat.{ℕ, zero, suc, _≤_, _<_}
+use native.Mathlib.Omega.{arith}
+use lib.Dec.{leb}
 use lib.ListN.{length}
+use borrow.Author.Tests.{leb-true, leb-false}
 use Rattle.numbers.specs.Lists.{at}
-use Rattle.numbers.specs.Checks.{accepted}
-use Rattle.account.specs.Open.{openTells}
-use Rattle.account.specs.Run.{Run}
-use Rattle.account.specs.Account.{Standing, Promised, Moves, Account}
+use Rattle.numbers.specs.Checks.{Answered, accepted, refused}
+use Rattle.qlt.specs.declared.Repair.{Repair}
+use Rattle.account.specs.Open.{openTells, openAnswer}
+use Rattle.account.specs.Step.{stepTells, stepAnswer}
+use Rattle.account.specs.Run.{Run, collect}
+use Rattle.account.specs.Account.{Event, Balance, Standing, told, Accepts, balanceAfter, Promised, Moves, Account}
+use Rattle.account.proofs.RunLaws.{run-collect}
+use Rattle.account.proofs.StepLaws.{answer-tells}
 use Rattle.account.proofs.Demand3.{demand3}
-use Rattle.legzhuro_c.specs.Calls.{OpenReturns, openAnswer, told}
-use Rattle.legzhuro_c.specs.CallRuns.{CallEvent, eventOf, CallPromised, CallMoves}
-use Rattle.legzhuro_c.proofs.OwnLaws.{open-own, step-own}
+use Rattle.legzhuro_c.specs.Calls as calls
+use Rattle.legzhuro_c.specs.Calls.{OpenReturns, repairIn}
+use Rattle.legzhuro_c.specs.CallRuns.{CallEvent, eventOf, stepsOf, CallPromised, CallMoves}
+use Rattle.legzhuro_c.proofs.OwnLaws.{open-own, step-own, step-short, step-short-returns}
 
-pub call-promised : (e : CallEvent) → CallPromised e → Promised (eventOf e)
-call-promised e p = step-own (e .call) (e .answer) (e .returned) (e .kept) (e .scratch) (e .answer′) (p .room) (p .returns)
+-- with room for its values, a call keeps Step's contract
+pub call-promised : (e : CallEvent) → 3 ≤ length (e .answer) → CallPromised e → Promised (eventOf e)
+call-promised e room p = step-own (e .call) (e .answer) (e .returned) (e .kept) (e .scratch) (e .answer′) room p
 
-call-moves : {s t : Standing} {e : CallEvent} → CallMoves s e t → Moves s (eventOf e) t
-call-moves {e = e} (CallMoves.lent p k b) = Moves.lent (call-promised e p) k b
-call-moves {e = e} (CallMoves.elsewhere p n) = Moves.elsewhere (call-promised e p) n
+-- ---- without it
 
-pub call-run : {s t : Standing} {es : List CallEvent} → Run CallMoves s es t → Run Moves s (map eventOf es) t
-call-run Run.done = Run.done
-call-run (Run.step m r) = Run.step (call-moves m) (call-run r)
+module _ (e : CallEvent) (short : length (e .answer) < 3) (p : CallPromised e) where
+  -- it returns 1, 2 or 3, which tells a refusal
+  small : (0 < e .returned) × (e .returned < 4)
+  small =
+      ⊎-elim (λ x. omega (arith, x)) (λ y. ⊎-elim (λ x. omega (arith, x)) (λ x. omega (arith, x)) y)
+      (step-short-returns (e .call) (e .answer) (e .returned) (e .kept) (e .scratch) (e .answer′) short p)
+
+  balance-stays : (b : Balance) → balanceAfter (told (eventOf e)) b ≡ b
+  balance-stays b = ap (λ a. balanceAfter a b) (answer-tells (calls.told (e .returned) (repairIn (e .answer′)))) ∙ by-return (e .returned) (small .0)
+    where
+      by-return : (r : ℕ) → 0 < r → balanceAfter (calls.told r (repairIn (e .answer′))) b ≡ b
+      by-return zero h = absurd (omega arith)
+      by-return (suc r) h = refl
+
+  kept-stays : e .kept ≡ e .call .kept
+  kept-stays = step-short (e .call) (e .answer) (e .returned) (e .kept) (e .scratch) (e .answer′) short p .0
+
+-- ---- moves
+
+by-room : (s : Standing) (t : Standing) (e : CallEvent) → CallMoves s e t → (b : Bool) → leb 3 (length (e .answer)) ≡ b → Run Moves s (cond b (eventOf e ∷ []) []) t
+by-room s t e (CallMoves.lent before rest p part w) true r =
+    Run.step (Moves.lent before rest (call-promised e (leb-true 3 _ r) p) part w) Run.done
+by-room s t e (CallMoves.lent before rest p part w) false r =
+    let h = leb-false 3 _ r in
+    subst (Run Moves s [])
+    (λ i. record {
+      kept = (part ∙ ap (λ l. before ++ (l ++ rest)) (sym (kept-stays e h p))) i;
+      balance = sym (balance-stays e h p (s .balance)) i;
+    })
+    Run.done
+by-room s t e (CallMoves.elsewhere p n) true r = Run.step (Moves.elsewhere (call-promised e (leb-true 3 _ r) p) n) Run.done
+by-room s t e (CallMoves.elsewhere p n) false r = Run.done
+
+pub call-run : (s t : Standing) (es : List CallEvent) → Run CallMoves s es t → Run Moves s (collect stepsOf es) t
+call-run = run-collect stepsOf (λ s t e m. by-room s t e m (leb 3 (length (e .answer))) refl)
 
 -- an opening from C that returned 0, and then any run of steps from C
 pub call-account :
     (kept answer answer′ : List ℕ) (opening : ℕ) → 1 ≤ length answer → OpenReturns kept answer 0 answer′ → opening ≡ at answer′ 0
     → (es : List CallEvent) (end : Standing) → Run CallMoves (record { kept = kept; balance = record { total = opening } }) es end
-    → Account opening (map eventOf es) end
+    → Account opening (collect stepsOf es) end
 unfolding openTells
 call-account kept answer answer′ opening h q o es end r =
-    demand3 kept (openAnswer (told 0 (at answer′ 0))) opening (open-own kept answer 0 answer′ h q) (ap accepted (sym o)) (map eventOf es) end (call-run r)
+    demand3 kept (openAnswer (calls.told 0 (at answer′ 0))) opening (open-own kept answer 0 answer′ h q) (ap accepted (sym o)) (collect stepsOf es) end (call-run _ end es r)

@@ -1,13 +1,15 @@
 -- Runs of the calls from C for a kept field, as runs of Step. Assumes nothing.
 use mathlib.Core.Path.{_≡_}
-use mathlib.Core.List.{List}
-use Prim.Native.Nat.{ℕ, _≤_}
+use mathlib.Core.Bool.{cond}
+use mathlib.Core.List.{List, [], _∷_, _++_}
+use Prim.Native.Nat.{ℕ}
+use lib.Dec.{leb}
 use lib.IntN.{ℤ}
 use lib.ListN.{length}
-use Rattle.account.specs.Step.{StepCall}
+use Rattle.account.specs.Step.{StepCall, stepAnswer}
 use Rattle.account.specs.Account.{Event, Standing, balanceOf, told, Accepts, balanceAfter}
 use Rattle.legzhuro_c.specs.Calls as calls
-use Rattle.legzhuro_c.specs.Calls.{StepReturns, stepAnswer, repairIn}
+use Rattle.legzhuro_c.specs.Calls.{StepReturns, repairIn}
 
 -- a call of `legzhuro_step` with what it returned and left
 pub record CallEvent : Type 0 where
@@ -18,7 +20,7 @@ pub record CallEvent : Type 0 where
   pub scratch : List ℤ
   pub answer′ : List ℕ
 
--- the Step that it is
+-- the Step that it is, by its return value and the list for its values
 abbrev pub eventOf : CallEvent → Event
 eventOf e =
     record {
@@ -28,13 +30,17 @@ eventOf e =
       scratch = e .scratch;
     }
 
--- what the call promises, lent an answer of three entries or more
-pub record CallPromised (e : CallEvent) : Type 0 where
-  pub room : 3 ≤ length (e .answer)
-  pub returns : StepReturns (e .call) (e .answer) (e .returned) (e .kept) (e .scratch) (e .answer′)
+-- one Step; none if the list for its values is too short, since such a call is refused for that
+abbrev pub stepsOf : CallEvent → List Event
+stepsOf e = cond (leb 3 (length (e .answer))) (eventOf e ∷ []) []
+
+-- exactly what the call promises, whatever the length of that list
+abbrev pub CallPromised : CallEvent → Type 0
+CallPromised e = StepReturns (e .call) (e .answer) (e .returned) (e .kept) (e .scratch) (e .answer′)
 
 -- moves as those of Step
 pub data CallMoves : Standing → CallEvent → Standing → Type 0 where
-  lent : {s : Standing} {e : CallEvent} → CallPromised e → e .call .kept ≡ s .kept → (Accepts (told (eventOf e)) → balanceOf (e .call) ≡ s .balance)
-      → CallMoves s e (record { kept = e .kept; balance = balanceAfter (told (eventOf e)) (s .balance) })
+  lent : {s : Standing} {e : CallEvent} (before rest : List ℕ) → CallPromised e → s .kept ≡ before ++ (e .call .kept ++ rest)
+      → (Accepts (told (eventOf e)) → (e .call .kept ≡ s .kept) × (balanceOf (e .call) ≡ s .balance))
+      → CallMoves s e (record { kept = before ++ (e .kept ++ rest); balance = balanceAfter (told (eventOf e)) (s .balance) })
   elsewhere : {s : Standing} {e : CallEvent} → CallPromised e → (Accepts (told (eventOf e)) → ⊥) → CallMoves s e s

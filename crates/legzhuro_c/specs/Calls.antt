@@ -1,51 +1,47 @@
 -- The calls from C: what each returns and leaves in the lists lent to it. Assumes nothing.
 use mathlib.Core.Path.{_≡_}
-use mathlib.Core.Bool.{cond}
-use mathlib.Core.List.{List, [], _∷_}
-use Prim.Native.Nat.{ℕ, zero, suc, _+_, _*_, _/_, _%_, _^_}
-use lib.Dec.{eqb}
+use mathlib.Core.List.{List, [], _∷_, _++_}
+use Prim.Native.Nat.{ℕ, zero, suc, _+_, _*_, _/_, _%_, _^_, _≤_}
 use lib.IntN.{ℤ, pos}
 use lib.ListN.{length, getD}
 use lib.Ieee.{Float, nan}
 use Rattle.numbers.specs.declared.Checked.{Checked}
 use Rattle.numbers.specs.declared.Checked.the-variants.{Pass, Fail}
-use Rattle.numbers.specs.Lists.{at, atℤ, written}
+use Rattle.numbers.specs.Lists.{at, atℤ, written, sum}
 use Rattle.numbers.specs.Signed.{over}
-use Rattle.numbers.specs.Checks.{Answered, accepted, refused, after, first, checkCount, checkLong}
-use Rattle.columns.specs.Columns.{width}
-use Rattle.caas.specs.declared.SplitAnswer.{SplitAnswer}
-use Rattle.caas.specs.declared.SplitAnswer.the-variants as split
+use Rattle.numbers.specs.Checks.{Answered, accepted, refused, after, first, checkCount, checkLong, Rule, rule}
 use Rattle.caas.specs.Operation.{SplitCall, splitVerdict, splitMasses}
 use Rattle.qlt.specs.declared.Repair.{Repair}
-use Rattle.qlt.specs.Field.{cells, nodes, field}
-use Rattle.qlt.specs.Masses.{treeMasses}
-use Rattle.qlt.specs.Checks.{sum, checkNodes}
-use Rattle.qlt.specs.Operation.{repair, cleared}
-use Rattle.account.specs.declared.Opened.{Opened}
-use Rattle.account.specs.declared.Opened.the-variants as opened
-use Rattle.account.specs.declared.Stepped.{Stepped}
-use Rattle.account.specs.declared.Stepped.the-variants as stepped
+use Rattle.qlt.specs.Field.{cells, nodes}
+use Rattle.qlt.specs.Checks.{checkNodes}
+use Rattle.qlt.specs.Operation.{repair, Leaves}
 use Rattle.account.specs.Open.{openVerdict}
-use Rattle.account.specs.Step.{StepCall, newTotal, stepVerdict}
+use Rattle.account.specs.Step.{StepCall, newTotal, repairCall, stepVerdict}
 use Rattle.conversion.specs.declared.CellDoubles.{CellDoubles}
 use Rattle.conversion.specs.declared.CellUnits.{CellUnits}
-use Rattle.conversion.specs.declared.Imported.{Imported}
-use Rattle.conversion.specs.declared.Imported.the-variants as imported
-use Rattle.conversion.specs.declared.Exported.{Exported}
-use Rattle.conversion.specs.declared.Exported.the-variants as exported
-use Rattle.conversion.specs.Import.{doubleAt, importVerdict, importUnits}
+use Rattle.conversion.specs.Import.{importVerdict, importUnits}
 use Rattle.conversion.specs.Export.{exportVerdict, exportDouble}
 use Rattle.formats.specs.declared.AnswerWritten.{AnswerWritten}
 use Rattle.formats.specs.declared.AnswerWritten.the-variants as answers
 use Rattle.formats.specs.ReadField.{fileCells}
-use Rattle.formats.specs.WriteAnswer.{answerBytes, writeCall, writeVerdict}
-use Rattle.repair_file.specs.RepairFile.{fileVerdict, fileRepair, fileMasses}
+use Rattle.formats.specs.WriteAnswer.{answerBlocks, answerBytes, writeCall, writeVerdict}
+use Rattle.repair_file.specs.RepairFile.{fileVerdict, fileRules, FileFits, fileRepair, fileMasses}
 
 -- ---- the call on files: reading, then Reconstruct, then writing, each in its order
 
+abbrev pub callChecks : List ℕ → List ℕ → List Checked
+callChecks file answer = fileVerdict file ∷ writeVerdict (writeCall (fileCells file) (fileRepair file) (fileMasses file) answer) ∷ []
+
 unfoldable pub callVerdict : List ℕ → List ℕ → Checked
-callVerdict file answer =
-    first (fileVerdict file ∷ writeVerdict (writeCall (fileCells file) (fileRepair file) (fileMasses file) answer) ∷ [])
+callVerdict file answer = first (callChecks file answer)
+
+-- what they mean: past reading and Reconstruct only the buffer's length is left to fail, with 3
+abbrev pub callRules : List ℕ → List ℕ → List Rule
+callRules file answer = fileRules file ++ (rule 3 (512 * answerBlocks (fileCells file) ≤ length answer) ∷ [])
+
+pub record CallFits (file answer : List ℕ) : Type 0 where
+  pub file-fits : FileFits file
+  pub space : 512 * answerBlocks (fileCells file) ≤ length answer
 
 -- 0, or the refusal's number
 abbrev pub numberOf : Checked → ℕ
@@ -94,8 +90,7 @@ repairWords r = r .outcome ∷ r .total ∷ r .change ∷ []
 
 pub record StepReturns (c : StepCall) (answer : List ℕ) (r : ℕ) (kept : List ℕ) (scratch : List ℤ) (answer′ : List ℕ) : Type 0 where
   pub returns : r ≡ returned (stepCallVerdict c answer)
-  pub keeps : kept ≡ after (stepCallVerdict c answer) (treeMasses (field (c .lists)) (newTotal c)) (c .kept)
-  pub leaves : scratch ≡ after (stepCallVerdict c answer) (cleared (width * nodes (c .lists)) (c .scratch)) (c .scratch)
+  pub leaves : Leaves (stepCallVerdict c answer) (repairCall c) kept scratch
   pub writes : answer′ ≡ after (stepCallVerdict c answer) (written answer 0 (repairWords (repair (c .lists) (newTotal c)))) answer
 
 -- Import: the five units go to the first five entries
@@ -117,22 +112,10 @@ pub record ExportReturns (mass k : ℕ) (value : List Float) (r : ℕ) (value′
   pub returns : r ≡ returned (exportCallVerdict mass k value)
   pub writes : value′ ≡ after (exportCallVerdict mass k value) (written value 0 (exportDouble mass k ∷ [])) value
 
--- ---- the operations' own answers, read off the return value and the lent list
-
-abbrev pub splitAnswer : Answered Unit → SplitAnswer
-splitAnswer (accepted u) = split.Done
-splitAnswer (refused number place) = split.Refused number place
-
-abbrev pub openAnswer : Answered ℕ → Opened
-openAnswer (accepted t) = opened.Total t
-openAnswer (refused number place) = opened.Refused number place
+-- ---- the values in the lent lists, from which the operations' own answers are read off
 
 abbrev pub repairIn : List ℕ → Repair
 repairIn answer = record { outcome = at answer 0; total = at answer 1; change = at answer 2 }
-
-abbrev pub stepAnswer : Answered Repair → Stepped
-stepAnswer (accepted r) = stepped.Accepted r
-stepAnswer (refused number place) = stepped.Refused number place
 
 abbrev pub unitsIn : List ℤ → CellUnits
 unitsIn units =
@@ -143,15 +126,6 @@ unitsIn units =
       «safe_low» = over (atℤ units 3);
       «safe_high» = over (atℤ units 4);
     }
-
--- a refused double is the one that was passed for the field
-abbrev pub importAnswer : Answered CellUnits → CellDoubles → Imported
-importAnswer (accepted u) c = imported.Units u
-importAnswer (refused number place) c = cond (eqb number 9) imported.BadScale (imported.Refused number place (doubleAt c place))
-
-abbrev pub exportAnswer : Answered Float → Exported
-exportAnswer (accepted x) = exported.Double x
-exportAnswer (refused number place) = exported.Refused number place
 
 abbrev pub doubleIn : List Float → Float
 doubleIn value = getD value 0 nan

@@ -1,18 +1,12 @@
--- What the program prints ('Examples' of 01): one line, outcome, cells, total, change, each after its name, then a line per cell: number,
--- mass, mass minus target; or, of a refusal, `refused`, number, place. Assumes nothing.
+-- What the program prints of an accepted field ('Examples' of 01): one line, outcome, cells, total, change, each after its name, then a
+-- line per cell: number, mass, mass minus target. Assumes nothing.
 use mathlib.Core.List.{List, [], _++_}
 use Prim.Native.Nat.{ℕ, zero, suc}
 use lib.IntN.{ℤ, pos, _-ℤ_}
 use Rattle.numbers.specs.Lists.{at, atℤ}
 use Rattle.qlt.specs.declared.Repair.{Repair}
 use Rattle.text.specs.Ascii.{ascii}
-use Rattle.text.specs.Text.{number, signedNumber, named}
-
-abbrev pub space : ℕ
-space = 32
-
-abbrev pub newline : ℕ
-newline = 10
+use Rattle.text.specs.Text.{number, signedNumber, named, space, newline}
 
 unfoldable pub headLine : ℕ → Repair → List ℕ
 headLine cells r =
@@ -29,9 +23,6 @@ unfoldable pub cellLines : List ℕ → List ℤ → ℕ → List ℕ
 cellLines masses targets zero = []
 cellLines masses targets (suc k) = cellLines masses targets k ++ cellLine k (at masses k) (atℤ targets k)
 
--- the whole text of a field that is accepted, and that of a refusal
+-- the whole text
 unfoldable pub listing : ℕ → Repair → List ℕ → List ℤ → List ℕ
 listing cells r masses targets = headLine cells r ++ cellLines masses targets cells
-
-unfoldable pub refusalLine : ℕ → ℕ → List ℕ
-refusalLine refusal place = named (ascii "refused ") refusal space ++ number place newline

@@ -1,10 +1,9 @@
-// The text of a listing and of a refusal, from the start of a lent list of bytes. A cell's line has at most 27 bytes, the whole at most
-// 13952.
+// The text of a listing, from the start of a lent list of bytes. A cell's line has at most 27 bytes, the whole at most 13952.
 ghost use mathlib.Core.Path.{_≡_};
 ghost use Prim.Native.Nat.{_+_, _*_, _≤_, _<_};
 ghost use lib.ListN.{length};
 ghost use Rattle.text.specs.Text.{Put};
-ghost use Rattle.listing.specs.Listing.{headLine, cellLine, cellLines, listing, refusalLine};
+ghost use Rattle.listing.specs.Listing.{headLine, cellLine, cellLines, listing};
 use numbers::inner::minus;
 use qlt::Repair;
 use text::inner::put_named;
@@ -54,13 +53,4 @@ pub fn put_listing(out: &mut [u8], repair: Repair, masses: &[u32], targets: &[i3
 {
     let end = put_head(out, masses.len(), repair);
     put_cells(out, end, masses, targets)
-}
-
-// The line of a refusal.
-pub fn put_refusal(out: &mut [u8], number: u32, place: u32) -> usize
-    requires { ⌜ 64 ≤ length (now out) ⌝ }
-    ensures { λ r. ⌜ Put (now (out .entry)) (now (out .exit)) 0 r (refusalLine number place) × (r ≤ 64) ⌝ }
-{
-    let a = put_named(out, 0, b"refused ", number as u64, b' ');
-    put_number(out, a, place as u64, b'\n')
 }

@@ -7,9 +7,10 @@ use Prim.Native.Nat.{ℕ, zero, suc, _+_, _-_, _≤_, _<_}
 use native.Mathlib.Omega.{arith}
 use native.Mathlib.Numerals.{add-one}
 use native.Mathlib.Decide.{ℕ-discrete}
+use lib.Dec.{eqb}
 use Rattle.numbers.specs.declared.Checked.{Checked}
 use Rattle.numbers.specs.declared.Checked.the-variants.{Pass, Fail}
-use Rattle.numbers.specs.Checks.{accepted, refused, answered, unless, both, eachFrom, firstFrom, everyFrom, Rule, Decides, rule, ruleFor, ruleAt, Holds, Broken, rulesFrom, inOrder, checkCount, checkLong}
+use Rattle.numbers.specs.Checks.{accepted, refused, answered, after, unless, both, eachFrom, firstFrom, everyFrom, Rule, Decides, rule, ruleFor, ruleAt, Holds, Broken, DecidesAll, rulesFrom, checkCount, checkScale, checkLength, checkLong}
 use Rattle.numbers.proofs.TestLaws.{Tested, holds, fails, tested, clash, and-means, lt-means, le-means, and-first, and-second, and-intro}
 
 -- ---- along a chain: the first passes and the rest decides; the first fails and that is it; the last decides
@@ -36,6 +37,11 @@ both-pass (Fail n p) = refl
 pub unless-and : (a b : Bool) (number place : ℕ) → both (unless a number place) (unless b number place) ≡ unless (a && b) number place
 unless-and true b number place = refl
 unless-and false b number place = refl
+
+-- so the lengths of several lists are one check
+pub then-length : (k n : ℕ) (b : Bool) (v : Checked) → v ≡ unless b 3 0 → both (checkLength k n) v ≡ unless (eqb k n && b) 3 0
+unfolding checkLength
+then-length k n b v e = ap (both (unless (eqb k n) 3 0)) e ∙ unless-and (eqb k n) b 3 0
 
 -- what a chain that passed says of its parts
 pub both-first : (v w : Checked) → both v w ≡ Pass → v ≡ Pass
@@ -105,6 +111,13 @@ pub answered-refused : {X : Type 0} (v : Checked) (y : X) (number place : ℕ) �
 answered-refused Pass y number place e = let z : _≡_ {A = ℕ} 0 1 = cc in absurd (omega arith)
 answered-refused (Fail n p) y number place e = cc
 
+-- what an accepted call leaves, and a refused one
+pub after-pass : {X : Type 0} {v : Checked} {x new : X} (old : X) → v ≡ Pass → x ≡ new → x ≡ after v new old
+after-pass {new = new} old p e = e ∙ ap (λ w. after w new old) (sym p)
+
+pub after-fail : {X : Type 0} {v : Checked} (new old : X) {number place : ℕ} → v ≡ Fail number place → old ≡ after v new old
+after-fail new old f = ap (λ w. after w new old) (sym f)
+
 -- ---- what verdicts mean
 
 -- one test
@@ -112,23 +125,23 @@ pub decides-for : (b : Bool) (number place : ℕ) {P : Type 0} → (b ≡ true) 
 decides-for true number place e =
     record {
       passes = (λ q. e .0 refl, λ q. refl);
-      fails = λ n p. (λ q. absurd (no-pass refl q), λ q. absurd (q .1 (e .0 refl)));
+      fails = λ n p. (λ q. absurd (no-pass refl q), λ q. absurd (q .1 .1 (e .0 refl)));
     }
 decides-for false number place e =
     record {
       passes = (λ q. absurd (no-pass q refl), λ q. absurd (clash (e .1 q) refl));
-      fails = λ n p. (λ q. ((cc, cc), λ h. absurd (clash (e .1 h) refl)), λ q. cc (q .0 .0, q .0 .1));
+      fails = λ n p. (λ q. (cc, (cc, λ h. absurd (clash (e .1 h) refl))), λ q. cc (q .0, q .1 .0));
     }
 
 pub decides-unless : (b : Bool) (number : ℕ) {P : Type 0} → (b ≡ true) ↔ P → Decides (unless b number 0) (rule number P)
 decides-unless b number e = decides-for b number 0 e
 
 -- rules in order
-pub decides-none : Decides Pass (inOrder [])
+pub decides-none : DecidesAll Pass []
 unfolding Holds Broken
 decides-none = record { passes = (λ q. tt, λ q. refl); fails = λ n p. (λ q. no-pass refl q, λ q. absurd q) }
 
-pub decides-then : (v w : Checked) (r : Rule) (rs : List Rule) → Decides v r → Decides w (inOrder rs) → Decides (both v w) (inOrder (r ∷ rs))
+pub decides-then : (v w : Checked) (r : Rule) (rs : List Rule) → Decides v r → DecidesAll w rs → DecidesAll (both v w) (r ∷ rs)
 unfolding Holds Broken
 decides-then Pass w r rs d e =
     record {
@@ -150,11 +163,11 @@ decides-then (Fail a b) w r rs d e =
     }
 
 -- one rule alone, as a list of rules
-pub alone : (v : Checked) (r : Rule) → Decides v r → Decides v (inOrder (r ∷ []))
-alone v r d = subst (λ x. Decides x (inOrder (r ∷ []))) (both-pass v) (decides-then v Pass r [] d decides-none)
+pub alone : (v : Checked) (r : Rule) → Decides v r → DecidesAll v (r ∷ [])
+alone v r d = subst (λ x. DecidesAll x (r ∷ [])) (both-pass v) (decides-then v Pass r [] d decides-none)
 
 -- one list of rules after another
-holds-append : (rs ss : List Rule) → Holds (rs ++ ss) ↔ (Holds rs × Holds ss)
+pub holds-append : (rs ss : List Rule) → Holds (rs ++ ss) ↔ (Holds rs × Holds ss)
 unfolding Holds
 holds-append [] ss = (λ h. (tt, h), λ h. h .1)
 holds-append (r ∷ rs) ss = (
@@ -162,33 +175,51 @@ holds-append (r ∷ rs) ss = (
   λ h. (h .0 .0, holds-append rs ss .1 (h .0 .1, h .1)),
 )
 
-broken-append : (rs ss : List Rule) (n p : ℕ) → Broken (rs ++ ss) n p ↔ (Broken rs n p ⊎ (Holds rs × Broken ss n p))
+-- a rule broken with a number at a place
+abbrev Here : Rule → ℕ → ℕ → Type 0
+Here r n p = (n ≡ r .number) × r .fault p
+
+pub broken-append : (rs ss : List Rule) (n p : ℕ) → Broken (rs ++ ss) n p ↔ (Broken rs n p ⊎ (Holds rs × Broken ss n p))
 unfolding Holds Broken
 broken-append [] ss n p = (λ h. inr (tt, h), λ h. ⊎-elim (λ f. absurd f) (λ g. g .1) h)
 broken-append (r ∷ rs) ss n p = (to (broken-append rs ss n p .0), from (broken-append rs ss n p .1))
   where
-    to : (Broken (rs ++ ss) n p → Broken rs n p ⊎ (Holds rs × Broken ss n p)) → r .fault n p ⊎ (r .fact × Broken (rs ++ ss) n p) → (r .fault n p ⊎ (r .fact × Broken rs n p)) ⊎ ((r .fact × Holds rs) × Broken ss n p)
+    to : (Broken (rs ++ ss) n p → Broken rs n p ⊎ (Holds rs × Broken ss n p)) → Here r n p ⊎ (r .fact × Broken (rs ++ ss) n p) → (Here r n p ⊎ (r .fact × Broken rs n p)) ⊎ ((r .fact × Holds rs) × Broken ss n p)
     to k (inl f) = inl (inl f)
     to k (inr g) = ⊎-elim (λ x. inl (inr (g .0, x))) (λ y. inr ((g .0, y .0), y .1)) (k (g .1))
 
-    from : (Broken rs n p ⊎ (Holds rs × Broken ss n p) → Broken (rs ++ ss) n p) → (r .fault n p ⊎ (r .fact × Broken rs n p)) ⊎ ((r .fact × Holds rs) × Broken ss n p) → r .fault n p ⊎ (r .fact × Broken (rs ++ ss) n p)
+    from : (Broken rs n p ⊎ (Holds rs × Broken ss n p) → Broken (rs ++ ss) n p) → (Here r n p ⊎ (r .fact × Broken rs n p)) ⊎ ((r .fact × Holds rs) × Broken ss n p) → Here r n p ⊎ (r .fact × Broken (rs ++ ss) n p)
     from k (inl (inl f)) = inl f
     from k (inl (inr g)) = inr (g .0, k (inl (g .1)))
     from k (inr h) = inr (h .0 .0, k (inr (h .0 .1, h .1)))
 
-pub decides-append : (v w : Checked) (rs ss : List Rule) → Decides v (inOrder rs) → Decides w (inOrder ss) → Decides (both v w) (inOrder (rs ++ ss))
-decides-append v w rs ss d e = carry (decides-then v w (inOrder rs) ss d e)
-  where
-    carry : Decides (both v w) (inOrder (inOrder rs ∷ ss)) → Decides (both v w) (inOrder (rs ++ ss))
-    carry x = unfold Holds Broken in
-        (record {
-          passes = (λ q. holds-append rs ss .1 (x .passes .0 q), λ h. x .passes .1 (holds-append rs ss .0 h));
-          fails = λ n p. (λ q. broken-append rs ss n p .1 (x .fails n p .0 q), λ h. x .fails n p .1 (broken-append rs ss n p .0 h));
-        })
+-- the second verdict counts only where the first passed, so only there it has to decide its rules
+pub decides-after : (v w : Checked) (rs ss : List Rule) → DecidesAll v rs → (v ≡ Pass → DecidesAll w ss) → DecidesAll (both v w) (rs ++ ss)
+decides-after Pass w rs ss d e =
+    record {
+      passes = (λ q. holds-append rs ss .1 (d .passes .0 refl, e refl .passes .0 q), λ h. e refl .passes .1 (holds-append rs ss .0 h .1));
+      fails =
+          λ n p. (
+            λ q. broken-append rs ss n p .1 (inr (d .passes .0 refl, e refl .fails n p .0 q)),
+            λ h. ⊎-elim (λ f. absurd (no-pass refl (d .fails n p .1 f))) (λ g. e refl .fails n p .1 (g .1)) (broken-append rs ss n p .0 h),
+          );
+    }
+decides-after (Fail a b) w rs ss d e =
+    record {
+      passes = (λ q. absurd (no-pass q refl), λ h. absurd (no-pass (d .passes .1 (holds-append rs ss .0 h .0)) refl));
+      fails =
+          λ n p. (
+            λ q. broken-append rs ss n p .1 (inl (d .fails n p .0 q)),
+            λ h. ⊎-elim (λ f. d .fails n p .1 f) (λ g. absurd (no-pass (d .passes .1 (g .0)) refl)) (broken-append rs ss n p .0 h),
+          );
+    }
+
+pub decides-append : (v w : Checked) (rs ss : List Rule) → DecidesAll v rs → DecidesAll w ss → DecidesAll (both v w) (rs ++ ss)
+decides-append v w rs ss d e = decides-after v w rs ss d (λ p. e)
 
 -- the checks of several places in turn
 module _ (check : ℕ → Checked) where
-  pub decides-each : (rules : ℕ → List Rule) → ((i : ℕ) → Decides (check i) (inOrder (rules i))) → (i k : ℕ) → Decides (eachFrom check i k) (inOrder (rulesFrom rules i k))
+  pub decides-each : (rules : ℕ → List Rule) → ((i : ℕ) → DecidesAll (check i) (rules i)) → (i k : ℕ) → DecidesAll (eachFrom check i k) (rulesFrom rules i k)
   unfolding eachFrom rulesFrom
   decides-each rules d i zero = decides-none
   decides-each rules d i (suc k) = decides-append (check i) (eachFrom check (suc i) k) (rules i) (rulesFrom rules (suc i) k) (d i) (decides-each rules d (suc i) k)
@@ -234,8 +265,9 @@ module _ (good : ℕ → Bool) (P : ℕ → Type 0) (e : (i : ℕ) → (good i �
     abbrev fromRule : ℕ → ℕ → Rule
     fromRule i k =
         record {
+          number = number;
           fact = From i k;
-          fault = λ n p. ((n ≡ number) × ((i ≤ p) × (p < i + k))) × ((P p → ⊥) × ((j : ℕ) → i ≤ j → j < p → P j));
+          fault = λ p. ((i ≤ p) × (p < i + k)) × ((P p → ⊥) × ((j : ℕ) → i ≤ j → j < p → P j));
         }
 
     from-step : (i k : ℕ) → Decides (firstFrom good number (suc i) k) (fromRule (suc i) k) → Tested (good i) → Decides (both (unless (good i) number i) (firstFrom good number (suc i) k)) (fromRule i (suc k))
@@ -245,8 +277,11 @@ module _ (good : ℕ → Bool) (P : ℕ → Type 0) (e : (i : ℕ) → (good i �
           passes = (λ q. from-next i k (e i .0 s) (d .passes .0 q), λ h. d .passes .1 (λ j a b. h j (omega arith) (omega arith)));
           fails =
               λ n p. (
-                λ q. let f = d .fails n p .0 q in ((f .0 .0, (omega (arith, f .0 .1), omega (arith, f .0 .1))), (f .1 .0, λ j a b. from-next i (p - suc i) (e i .0 s) (λ x y z. f .1 .1 x y (omega arith)) j a (omega (arith, f .0 .1)))),
-                λ h. d .fails n p .1 ((h .0 .0, (not-first (h .0 .1 .0) (h .1 .0), omega (arith, h .0 .1))), (h .1 .0, λ j a b. h .1 .1 j (omega arith) b)),
+                λ q.
+                    let f = d .fails n p .0 q in
+                    let l = f .1 .0 in
+                    (f .0, ((omega (arith, l), omega (arith, l)), (f .1 .1 .0, λ j a b. from-next i (p - suc i) (e i .0 s) (λ x y z. f .1 .1 .1 x y (omega arith)) j a (omega (arith, l))))),
+                λ h. d .fails n p .1 (h .0, ((not-first (h .1 .0 .0) (h .1 .1 .0), omega (arith, h .1 .0)), (h .1 .1 .0, λ j a b. h .1 .1 .1 j (omega arith) b))),
               );
         })
       where
@@ -262,24 +297,24 @@ module _ (good : ℕ → Bool) (P : ℕ → Type 0) (e : (i : ℕ) → (good i �
           passes = (λ q. absurd (no-pass q refl), λ h. absurd (clash (e i .1 (h i (omega arith) (omega arith))) s));
           fails =
               λ n p. (
-                λ q. let a : number ≡ n = cc in let b : i ≡ p = cc in ((sym a, (omega arith, omega arith)), (subst (λ x. P x → ⊥) b (λ h. clash (e i .1 h) s), λ j x y. absurd (omega arith))),
-                λ h. let b : p ≡ i = here h in cc (h .0 .0, b),
+                λ q. let a : number ≡ n = cc in let b : i ≡ p = cc in (sym a, ((omega arith, omega arith), (subst (λ x. P x → ⊥) b (λ h. clash (e i .1 h) s), λ j x y. absurd (omega arith)))),
+                λ h. let b : p ≡ i = here (h .1) in cc (h .0, b),
               );
         })
       where
-        here : {n p : ℕ} → ((n ≡ number) × ((i ≤ p) × (p < i + suc k))) × ((P p → ⊥) × ((j : ℕ) → i ≤ j → j < p → P j)) → p ≡ i
-        here {n} {p} h = go (ℕ-discrete p i)
+        here : {p : ℕ} → ((i ≤ p) × (p < i + suc k)) × ((P p → ⊥) × ((j : ℕ) → i ≤ j → j < p → P j)) → p ≡ i
+        here {p} h = go (ℕ-discrete p i)
           where
             go : Dec (p ≡ i) → p ≡ i
             go (yes t) = t
-            go (no t) = absurd (clash (e i .1 (h .1 .1 i (omega arith) (omega (arith, h .0 .1)))) s)
+            go (no t) = absurd (clash (e i .1 (h .1 .1 i (omega arith) (omega (arith, h .0)))) s)
 
     from-decides : (i k : ℕ) → Decides (firstFrom good number i k) (fromRule i k)
     unfolding firstFrom eachFrom
     from-decides i zero =
         record {
           passes = (λ q j a b. absurd (omega arith), λ h. refl);
-          fails = λ n p. (λ q. absurd (no-pass refl q), λ h. absurd (omega (arith, h .0 .1)));
+          fails = λ n p. (λ q. absurd (no-pass refl q), λ h. absurd (omega (arith, h .1 .0)));
         }
     from-decides i (suc k) = from-step i k (from-decides (suc i) k) (tested (good i))
 
@@ -290,8 +325,8 @@ module _ (good : ℕ → Bool) (P : ℕ → Type 0) (e : (i : ℕ) → (good i �
           passes = (λ q i l. d .passes .0 q i (omega arith) (omega arith), λ h. d .passes .1 (λ j a b. h j (omega arith)));
           fails =
               λ n p. (
-                λ q. let f = d .fails n p .0 q in ((f .0 .0, omega (arith, f .0 .1)), (f .1 .0, λ i l. f .1 .1 i (omega arith) l)),
-                λ h. d .fails n p .1 ((h .0 .0, (omega arith, omega (arith, h .0 .1))), (h .1 .0, λ j a b. h .1 .1 j b)),
+                λ q. let f = d .fails n p .0 q in (f .0, (omega (arith, f .1 .0), (f .1 .1 .0, λ i l. f .1 .1 .1 i (omega arith) l))),
+                λ h. d .fails n p .1 (h .0, ((omega arith, omega (arith, h .1 .0)), (h .1 .1 .0, λ j a b. h .1 .1 .1 j b))),
               );
         }
 
@@ -300,6 +335,10 @@ module _ (good : ℕ → Bool) (P : ℕ → Type 0) (e : (i : ℕ) → (good i �
 pub count-decides : (n : ℕ) → Decides (checkCount n) (rule 1 ((0 < n) × (n ≤ 512)))
 unfolding checkCount
 count-decides n = decides-unless _ 1 (and-means (lt-means 0 n) (le-means n 512))
+
+pub scale-decides : (k : ℕ) → Decides (checkScale k) (rule 9 (k ≤ 30))
+unfolding checkScale
+scale-decides k = decides-unless _ 9 (le-means k 30)
 
 pub long-decides : (k n : ℕ) → Decides (checkLong k n) (rule 3 (n ≤ k))
 unfolding checkLong

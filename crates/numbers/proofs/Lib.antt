@@ -5,4 +5,6 @@ pub mod ListLaws
 pub mod PartLaws
 pub mod SignedLaws
 pub mod QuotaLaws
+pub mod RoundingLaws
 pub mod CheckLaws
+pub mod ChainLaws

@@ -2,13 +2,13 @@
 use mathlib.Core.Path.{_≡_, refl, sym, _∙_, ap}
 use mathlib.Core.List.{List, [], _∷_, _++_, append-assoc, append-nil}
 use Prim.Native.Nat.{ℕ, zero, suc, _+_, _≤_, _<_}
-use native.Mathlib.Nat.{add-zero}
 use native.Mathlib.Numerals.{add-one}
 use native.Mathlib.Omega.{arith}
 use native.Mathlib.Decide.{ℕ-discrete}
-use lib.ListN.{length, getD, take, drop, set, length-append, length-drop, take-append-drop, drop-of-length-le, List·getD-append}
+use lib.ListN.{length, getD, take, drop, set, length-append, drop-of-length-le, List·getD-append}
 use lib.Seq.{getD-append-seam, length-take-le, drop-cons, set-at}
 use Rattle.numbers.specs.Lists.{listTo, written}
+use Rattle.numbers.proofs.PartLaws.{written-empty, length-kept}
 
 pub length-listTo {ℓ} : {X : Type ℓ} (k : ℕ) (f : ℕ → X) → length (listTo k f) ≡ k
 unfolding listTo
@@ -35,13 +35,12 @@ listTo-ext (suc k) f g h = rw (listTo-ext k f g (λ i l. h i (omega arith)), h k
 -- ---- written parts
 
 module _ {ℓ} {X : Type ℓ} (l : List X) (from : ℕ) (f : ℕ → X) where
+  -- none of it is written
   pub written-none : l ≡ written l from (listTo 0 f)
-  unfolding written listTo
-  written-none = rw add-zero (sym (take-append-drop from l))
+  written-none = written-empty l from (listTo 0 f) (length-listTo 0 f)
 
   pub length-written : (n : ℕ) → from + n ≤ length l → length (written l from (listTo n f)) ≡ length l
-  unfolding written
-  length-written n h = simp (length-append, length-listTo, length-drop) (omega (arith, length-take-le from l (omega arith)))
+  length-written n h = length-kept l from (listTo n f) (omega (arith, length-listTo n f))
 
   -- one element more is written
   pub written-next : (n : ℕ) → from + n < length l → set (written l from (listTo n f)) (from + n) (f n) ≡ written l from (listTo (n + 1) f)

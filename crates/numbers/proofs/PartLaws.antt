@@ -1,5 +1,5 @@
 -- Laws of parts of lists and of written parts, for elements of any type. Assumes nothing.
-use mathlib.Core.Path.{_≡_, sym, ap, _∙_}
+use mathlib.Core.Path.{_≡_, refl, sym, ap, _∙_}
 use mathlib.Core.List.{List, [], _∷_, _++_, append-assoc}
 use Prim.Native.Nat.{ℕ, zero, suc, _+_, _-_, _≤_, _<_, min}
 use native.Mathlib.Nat.{add-zero, sub-zero, zero-sub, suc-sub-suc, zero-min, min-zero, suc-min-suc}
@@ -33,11 +33,29 @@ module _ {ℓ} {X : Type ℓ} where
   pub length-part : (n from : ℕ) (l : List X) → from + n ≤ length l → length (take n (drop from l)) ≡ n
   length-part n from l h = length-take-le n (drop from l) (omega (arith, length-drop from l))
 
+  -- a part that is the whole list leaves nothing before it and nothing after
+  pub part-whole : (a l b : List X) → l ≡ a ++ (l ++ b) → (a ≡ []) × (b ≡ [])
+  part-whole a l b e = (empty a (omega (arith, same)), empty b (omega (arith, same)))
+    where
+      same : length l ≡ length a + (length l + length b)
+      same = ap length e ∙ length-append a (l ++ b) ∙ ap (λ k. length a + k) (length-append l b)
+
+      empty : (x : List X) → length x ≡ 0 → x ≡ []
+      empty [] h = refl
+      empty (y ∷ x) h = absurd (omega arith)
+
   -- ---- written parts
 
-  pub written-empty : (l : List X) (from : ℕ) → l ≡ written l from []
+  -- nothing is written
+  pub written-empty : (l : List X) (from : ℕ) (vs : List X) → length vs ≡ 0 → l ≡ written l from vs
   unfolding written
-  written-empty l from = rw add-zero (sym (take-append-drop from l))
+  written-empty l from [] e = rw add-zero (sym (take-append-drop from l))
+  written-empty l from (v ∷ vs) e = absurd (omega arith)
+
+  -- what was written at the front
+  pub front-written : (l xs : List X) (n : ℕ) → length xs ≡ n → take n (written l 0 xs) ≡ xs
+  unfolding written
+  front-written l xs n e = take-at xs (drop (0 + length xs) l) n e
 
   -- stores in a row
   pub sets-written : (vs l : List X) (from : ℕ) → from + length vs ≤ length l → sets l from vs ≡ written l from vs

@@ -97,15 +97,6 @@ pub abs-parts : (z : ℤ) → natAbs z ≡ over z + under z
 abs-parts (pos n) = omega arith
 abs-parts (negsuc n) = omega arith
 
-pub fits-parts : {z : ℤ} → SFits w64 z → (over z < 2 ^ 63) × (under z ≤ 2 ^ 63)
-fits-parts {z} h = let k : mag z < 2 ^ 63 = h .sfits in omega (arith, mag-parts z)
-
-pub parts-fits : {z : ℤ} → max (over z) (pred (under z)) < 2 ^ 63 → SFits w64 z
-parts-fits {z} h = record { sfits = omega (arith, mag-parts z) }
-
-pub fits32-parts : {z : ℤ} → SFits w32 z → (over z < 2 ^ 31) × (under z ≤ 2 ^ 31)
-fits32-parts {z} h = let k : mag z < 2 ^ 31 = h .sfits in omega (arith, mag-parts z)
-
 pub parts-fits32 : {z : ℤ} → max (over z) (pred (under z)) < 2 ^ 31 → SFits w32 z
 parts-fits32 {z} h = record { sfits = omega (arith, mag-parts z) }
 

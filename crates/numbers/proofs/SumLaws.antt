@@ -32,10 +32,22 @@ module _ (A : Adds) where
   sumTo-ext zero f g h = refl
   sumTo-ext (suc k) f g h = ap₂ plus (sumTo-ext k f g (λ i l. h i (omega arith))) (h k (omega arith))
 
+  -- a sum may stop where nothing follows
+  stop : (f : ℕ → A .Num) (k d : ℕ) → ((i : ℕ) → k ≤ i → i < k + d → f i ≡ none) → sumTo A (k + d) f ≡ sumTo A k f
+  stop f k zero h = let e : k + 0 ≡ k = omega arith in rw e
+  stop f k (suc d) h =
+      let e : k + suc d ≡ suc (k + d) = omega arith in
+      ap (λ i. sumTo A i f) e
+      ∙ sumTo-next (k + d) f
+      ∙ ap₂ plus (stop f k d (λ i a b. h i a (omega arith))) (h (k + d) (omega arith) (omega arith))
+      ∙ idr (sumTo A k f)
+
+  pub sumTo-stop : (f : ℕ → A .Num) (k m : ℕ) → k ≤ m → ((i : ℕ) → k ≤ i → i < m → f i ≡ none) → sumTo A m f ≡ sumTo A k f
+  sumTo-stop f k m l h = let e : m ≡ k + (m - k) = omega arith in ap (λ i. sumTo A i f) e ∙ stop f k (m - k) (λ i a b. h i a (omega arith))
+
   pub sumTo-none : (k : ℕ) (f : ℕ → A .Num) → ((i : ℕ) → i < k → f i ≡ none) → sumTo A k f ≡ none
   unfolding sumTo
-  sumTo-none zero f h = refl
-  sumTo-none (suc k) f h = ap₂ plus (sumTo-none k f (λ i l. h i (omega arith))) (h k (omega arith)) ∙ idl none
+  sumTo-none k f h = sumTo-stop f 0 k (omega arith) (λ i a b. h i b)
 
   pub sumTo-plus : (k : ℕ) (f g : ℕ → A .Num) → sumTo A k (λ i. plus (f i) (g i)) ≡ plus (sumTo A k f) (sumTo A k g)
   unfolding sumTo

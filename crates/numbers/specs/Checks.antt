@@ -57,29 +57,33 @@ after (Fail number place) new old = old
 
 -- ---- what verdicts mean
 
--- a check in plain facts: it passes exactly if `fact` holds, and fails with a number at a place exactly if `fault number place` holds
+-- a check in plain facts: its number, the fact that it passes by, and what breaks it at a place
 pub record Rule : Type 1 where
+  pub number : ℕ
   pub fact : Type 0
-  pub fault : ℕ → ℕ → Type 0
+  pub fault : ℕ → Type 0
 
+-- a verdict decides a rule: it passes exactly if the fact holds, and fails with a number at a place exactly if this is the rule's number
+-- and the rule is broken there
 pub record Decides (v : Checked) (r : Rule) : Type 0 where
   pub passes : (v ≡ Pass) ↔ r .fact
-  pub fails : (number place : ℕ) → (v ≡ Fail number place) ↔ r .fault number place
+  pub fails : (number place : ℕ) → (v ≡ Fail number place) ↔ ((number ≡ r .number) × r .fault place)
 
--- one fact: broken, it fails with this number at this place
+-- one fact: broken, it fails at this place
 abbrev pub ruleFor : ℕ → ℕ → Type 0 → Rule
-ruleFor number place P = record { fact = P; fault = λ n p. ((n ≡ number) × (p ≡ place)) × (P → ⊥) }
+ruleFor number place P = record { number = number; fact = P; fault = λ p. (p ≡ place) × (P → ⊥) }
 
 -- the same at place 0
 abbrev pub rule : ℕ → Type 0 → Rule
 rule number P = ruleFor number 0 P
 
--- a fact of each place below k: broken, it fails with this number at the least place that breaks it
+-- a fact of each place below k: broken, it fails at the least place that breaks it
 abbrev pub ruleAt : ℕ → ℕ → (ℕ → Type 0) → Rule
 ruleAt number k P =
     record {
+      number = number;
       fact = (i : ℕ) → i < k → P i;
-      fault = λ n p. ((n ≡ number) × (p < k)) × ((P p → ⊥) × ((i : ℕ) → i < p → P i));
+      fault = λ p. (p < k) × ((P p → ⊥) × ((i : ℕ) → i < p → P i));
     }
 
 -- rules in order: all hold; or those before one hold, and this one is broken
@@ -89,21 +93,49 @@ Holds (r ∷ rs) = r .fact × Holds rs
 
 unfoldable pub Broken : List Rule → ℕ → ℕ → Type 0
 Broken [] number place = ⊥
-Broken (r ∷ rs) number place = r .fault number place ⊎ (r .fact × Broken rs number place)
+Broken (r ∷ rs) number place = ((number ≡ r .number) × r .fault place) ⊎ (r .fact × Broken rs number place)
+
+-- a verdict decides rules in order
+pub record DecidesAll (v : Checked) (rs : List Rule) : Type 0 where
+  pub passes : (v ≡ Pass) ↔ Holds rs
+  pub fails : (number place : ℕ) → (v ≡ Fail number place) ↔ Broken rs number place
 
 -- the rules of the k places from i on, in turn
 unfoldable pub rulesFrom : (ℕ → List Rule) → ℕ → ℕ → List Rule
 rulesFrom rules i zero = []
 rulesFrom rules i (suc k) = rules i ++ rulesFrom rules (suc i) k
 
-abbrev pub inOrder : List Rule → Rule
-inOrder rs = record { fact = Holds rs; fault = Broken rs }
+-- ---- the numbers that rules refuse with
+
+abbrev pub numbersOf : List Rule → List ℕ
+numbersOf [] = []
+numbersOf (r ∷ rs) = r .number ∷ numbersOf rs
+
+-- n is one of a list's numbers
+unfoldable pub OneOf : List ℕ → ℕ → Type 0
+OneOf [] n = ⊥
+OneOf (k ∷ ks) n = (n ≡ k) ⊎ OneOf ks n
+
+-- these rules have these numbers and no others, whatever their order and however often
+abbrev pub RefuseWith : List Rule → List ℕ → Type 0
+RefuseWith rs ns = (n : ℕ) → OneOf (numbersOf rs) n ↔ OneOf ns n
+
+-- ---- a chain of checks that is another one with checks of its own put in, which fail with numbers of their own
+
+pub data Extends (Own : ℕ → Type 0) : List Checked → List Checked → Type 0 where
+  end : Extends Own [] []
+  shared : {v : Checked} {vs ws : List Checked} → Extends Own vs ws → Extends Own (v ∷ vs) (v ∷ ws)
+  extra : {v : Checked} {vs ws : List Checked} → ((number place : ℕ) → v ≡ Fail number place → Own number) → Extends Own vs ws → Extends Own (v ∷ vs) ws
 
 -- ---- checks that several operations share
 
 -- 1: the number of items or cells is 1 to 512
 unfoldable pub checkCount : ℕ → Checked
 checkCount n = unless (ltb 0 n && leb n 512) 1 0
+
+-- 9: the scale is at most 30
+unfoldable pub checkScale : ℕ → Checked
+checkScale k = unless (leb k 30) 9 0
 
 -- 3: a list has the length n
 unfoldable pub checkLength : ℕ → ℕ → Checked

@@ -3,4 +3,5 @@ pub mod Sums
 pub mod Lists
 pub mod Signed
 pub mod Quota
+pub mod Roundings
 pub mod Checks

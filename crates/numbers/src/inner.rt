@@ -1,15 +1,16 @@
 // Leaf functions for the crates above, each with its whole contract: signed numbers are taken to unsigned ones as early as can be.
 ghost use mathlib.Core.Path.{_≡_};
-ghost use Prim.Native.Nat.{_+_, _<_, _^_, min, max};
+ghost use mathlib.Core.Bool.{_&&_};
+ghost use Prim.Native.Nat.{_+_, _≤_, _<_, _^_, min, max};
 ghost use lib.IntN.{pos, natAbs, _-ℤ_};
 ghost use lib.Signed.{ltZ, leZ};
 ghost use lib.ListN.{length, set};
 ghost use Rattle.numbers.specs.Sums.{ℕ-adds, sumTo};
-ghost use Rattle.numbers.specs.Lists.{atℤ};
+ghost use Rattle.numbers.specs.Lists.{at, atℤ, sum};
 ghost use Rattle.numbers.specs.Signed.{over};
 ghost use Rattle.numbers.specs.Quota.{quota};
 ghost use Rattle.numbers.specs.declared.Checked.the-variants.{Fail};
-ghost use Rattle.numbers.specs.Checks.{both, checkCount, checkLength, checkLong};
+ghost use Rattle.numbers.specs.Checks.{unless, both, checkCount, checkLength, checkLong};
 
 // The smaller and the larger of two; the smaller of two lengths.
 pub fn smaller(a: u64, b: u64) -> u64
@@ -48,6 +49,14 @@ pub fn above(x: i64) -> u64
     ensures { λ r. ⌜ r ≡ over x ⌝ }
 {
     if x < 0 { 0 } else { x as u64 }
+}
+
+// A number that fits 32 bits.
+pub fn narrow(x: u64) -> u32
+    requires { ⌜ x < 2 ^ 32 ⌝ }
+    ensures { λ r. ⌜ r ≡ x ⌝ }
+{
+    x as u32
 }
 
 // An unsigned number as a signed one.
@@ -134,6 +143,46 @@ pub fn sum_above(xs: &[i64]) -> u64
     sum
 }
 
+// An element of a list, with room to add up.
+fn value_at(xs: &[u32], i: usize) -> u64
+    requires { ⌜ i < length (now xs) ⌝ }
+    ensures { λ r. ⌜ (r ≡ at (now (xs .entry)) i) × (r < 2 ^ 32) ⌝ }
+{
+    xs[i] as u64
+}
+
+// The sum of a list.
+pub fn sum_of(xs: &[u32]) -> u64
+    requires { ⌜ length (now xs) ≤ 1024 ⌝ }
+    ensures { λ r. ⌜ (r ≡ sum (now (xs .entry))) × (r < 2 ^ 42) ⌝ }
+{
+    let mut sum: u64 = 0;
+    let mut i: usize = 0;
+    while i < xs.len() {
+        sum += value_at(xs, i);
+        i += 1;
+    }
+    sum
+}
+
+// Two tests as one. (An argument `a && b` would part the ways before the call; this does not.)
+pub fn and(a: bool, b: bool) -> bool
+    ensures { λ r. ⌜ r ≡ (a && b) ⌝ }
+{
+    if a { b } else { false }
+}
+
+// Passes if the test holds, else fails with the number and the place.
+pub fn unless(ok: bool, number: u32, place: u32) -> crate::Checked
+    ensures { λ r. ⌜ r ≡ unless ok number place ⌝ }
+{
+    if ok {
+        crate::Checked::Pass
+    } else {
+        crate::Checked::Fail { number, place }
+    }
+}
+
 // The first of two checks that fails.
 pub fn then(a: crate::Checked, b: crate::Checked) -> crate::Checked
     ensures { λ r. ⌜ r ≡ both a b ⌝ }
@@ -159,43 +208,19 @@ pub fn fail_at(number: u32, place: usize) -> crate::Checked
 pub fn check_count(n: usize) -> crate::Checked
     ensures { λ r. ⌜ r ≡ checkCount n ⌝ }
 {
-    if n == 0 {
-        return crate::Checked::Fail {
-            number: 1,
-            place: 0,
-        };
-    }
-    if 512 < n {
-        return crate::Checked::Fail {
-            number: 1,
-            place: 0,
-        };
-    }
-    crate::Checked::Pass
+    unless(and(0 < n, n <= 512), 1, 0)
 }
 
 // 3: a list has the length n.
 pub fn check_length(k: usize, n: usize) -> crate::Checked
     ensures { λ r. ⌜ r ≡ checkLength k n ⌝ }
 {
-    if k == n {
-        return crate::Checked::Pass;
-    }
-    crate::Checked::Fail {
-        number: 3,
-        place: 0,
-    }
+    unless(k == n, 3, 0)
 }
 
 // 3: a list of k entries has room for n.
 pub fn check_long(k: usize, n: usize) -> crate::Checked
     ensures { λ r. ⌜ r ≡ checkLong k n ⌝ }
 {
-    if k < n {
-        return crate::Checked::Fail {
-            number: 3,
-            place: 0,
-        };
-    }
-    crate::Checked::Pass
+    unless(n <= k, 3, 0)
 }

@@ -21,7 +21,7 @@ use Rattle.numbers.specs.Sums.{ℕ-adds, ℤ-adds, sumTo}
 use Rattle.numbers.specs.Lists.{atℤ, listTo, written}
 use Rattle.numbers.proofs.SignedLaws.{about, minus-parts}
 use Rattle.numbers.proofs.SumLaws.{sumTo-next, sumTo-ext}
-use Rattle.numbers.proofs.ListLaws.{length-listTo, written-none, length-written, written-next}
+use Rattle.numbers.proofs.ListLaws.{length-listTo, written-none, written-next}
 use Rattle.columns.specs.Columns.{width, MASS, col, InRow, Stored, Kept, Laid}
 use Rattle.columns.proofs.ColumnLaws.{in-row, kept-start, kept-on, kept-write, laid-start, laid-next}
 use Rattle.qlt.specs.Tree.{Valid}
@@ -161,11 +161,6 @@ module _ (s : List ℤ) where
   pub cleared-next : (k : ℕ) → k < length s → set (cleared k s) k (pos 0) ≡ cleared (k + 1) s
   unfolding cleared
   cleared-next k l = ap (λ i. set (written s 0 (listTo k (λ j. pos 0))) i (pos 0)) (sym (zero-add k)) ∙ written-next s 0 (λ i. pos 0) k (omega arith)
-
-  -- the length stays
-  pub length-cleared : (k : ℕ) → k ≤ length s → length (cleared k s) ≡ length s
-  unfolding cleared
-  length-cleared k l = length-written s 0 (λ i. pos 0) k (omega arith)
 
 -- what lies past the first j numbers goes by the elements from j on
 drop-ext : (j : ℕ) (a b : List ℤ) → length a ≡ length b → ((i : ℕ) → j ≤ i → atℤ a i ≡ atℤ b i) → drop j a ≡ drop j b

@@ -14,13 +14,14 @@ use Rattle.numbers.proofs.SumLaws.{sumTo-ext, sumTo-le}
 use Rattle.numbers.proofs.ListLaws.{length-listTo, getD-listTo, listTo-ext}
 use Rattle.caas.specs.Group.{Group, Splits, sumIn}
 use Rattle.caas.specs.Split.{result}
-use Rattle.caas.proofs.SplitLaws.{result-adds, result-within}
 use Rattle.caas.proofs.ExtLaws.{all-ext, result-ext, splits-ext}
 use Rattle.columns.specs.Columns.{width, MASS, LOW, HIGH, WEIGHT, FIRST, col, num, Stored, Laid}
 use Rattle.qlt.specs.Tree.{childOf, massAt, Valid}
 use Rattle.qlt.specs.Operation.{cleared}
 use Rattle.qlt.proofs.TreeLaws.{up-ind, child-low, child-parent, nodeSum-inner}
-use Rattle.qlt.proofs.MassLaws.{InBounds, Sharing, nodeSum-le, mass-root, mass-up, mass-within}
+use Rattle.qlt.specs.Masses.{massBetween}
+use Rattle.qlt.proofs.MassLaws.{InBounds, mass-root, mass-up}
+use Rattle.qlt.proofs.BetweenLaws.{between-in, between-can}
 use Rattle.passes.specs.Gather.{Loaded}
 use Rattle.passes.specs.Descent.{groupBy, massIn, Descending, Descended}
 use Rattle.passes.specs.Solve.{nodeOf, targetOf, nodeGroup, massOf, Solvable, Prepared, Solved}
@@ -79,28 +80,11 @@ module _ {parents : List ℕ} {targets : List ℤ} {lows highs weights : List �
 
   -- ---- each node's mass lies within its bounds
 
-  -- a mass within a node's bounds can be split among its children
-  can-split : (v x : ℕ) → n ≤ v → v < m → InBounds (at parents) n m (at lows) (at highs) v x → Splits (group v) x
-  can-split v x h l b =
-      record {
-        order = λ u k e. nodeSum-le (at parents) n m (at lows) (at highs) (ok .order) u;
-        least = rw (nodeSum-inner (ok .valid) ℕ-adds (at lows) v h l) at (b .0);
-        most = rw (nodeSum-inner (ok .valid) ℕ-adds (at highs) v h l) at (b .1);
-      }
-
-  sharing : Sharing (at parents) n m (at lows) (at highs) (λ v. result (group v))
-  sharing =
-      record {
-        adds = λ v x h l b. result-adds (group v) x (can-split v x h l b);
-        within = λ v x h l b. result-within (group v) x (can-split v x h l b);
-      }
-
   mass-in : (v : ℕ) → v < m → InBounds (at parents) n m (at lows) (at highs) v (mass v)
-  unfolding massOf
-  mass-in = mass-within (ok .valid) (λ v. result (group v)) M sharing (ok .least) (ok .most)
+  mass-in = between-in (ok .valid) (atℤ targets) (at weights) (at lows) (at highs) (ok .order) M (ok .least) (ok .most)
 
   mass-can : (v : ℕ) → n ≤ v → v < m → Splits (group v) (mass v)
-  mass-can v h l = can-split v (mass v) h l (mass-in v l)
+  mass-can = between-can (ok .valid) (atℤ targets) (at weights) (at lows) (at highs) (ok .order) M (ok .least) (ok .most)
 
   mass-small : (v : ℕ) → v < m → mass v < 2 ^ 31
   mass-small v l = omega (arith, ok .small, mass-in v l, node-most (at parents) n m (at highs) v)
@@ -163,7 +147,7 @@ module _ {parents : List ℕ} {targets : List ℤ} {lows highs weights : List �
 
     -- so are the masses
     mass-is : (u : ℕ) → u < m → massIn (at parents) m t u ≡ mass u
-    unfolding massIn massOf
+    unfolding massIn massBetween
     mass-is u l =
         ap (λ x. massAt (at parents) m (λ v. result (held v)) x u) root-is
         ∙ mass-ext (ok .valid) (λ v. result (held v)) (λ v. result (group v)) M

@@ -12,23 +12,9 @@ use lib.IntN.{ℤ, pos, natAbs, _+ℤ_}
 use borrow.Author.Tests.{lt-ltb, le-ltb}
 use Rattle.numbers.specs.Sums.{Adds, ℕ-adds, ℤ-adds, sumTo, pick}
 use Rattle.numbers.proofs.SignedLaws.{add-parts, about}
-use Rattle.numbers.proofs.SumLaws.{idr, sumTo-next, sumTo-ext, sumTo-none, sumTo-le, sumTo-grows, sumTo-pos, pick-skip, pick-le, pick-pos}
+use Rattle.numbers.proofs.SumLaws.{idr, sumTo-next, sumTo-ext, sumTo-stop, sumTo-none, sumTo-le, sumTo-grows, sumTo-pos, pick-skip, pick-le, pick-pos}
 use Rattle.qlt.specs.Tree.{leads, childOf, nodeSum, Valid}
 use Rattle.qlt.proofs.TreeLaws.{child-other, child-up, child-low, child-less, child-parent, nodeSum-inner, nodeSum-cell}
-
--- a sum may stop where nothing follows
-module _ (A : Adds) (f : ℕ → A .Num) (k : ℕ) where
-  stop : (d : ℕ) → ((i : ℕ) → k ≤ i → i < k + d → f i ≡ A .none) → sumTo A (k + d) f ≡ sumTo A k f
-  stop zero h = let e : k + 0 ≡ k = omega arith in rw e
-  stop (suc d) h =
-      let e : k + suc d ≡ suc (k + d) = omega arith in
-      ap (λ i. sumTo A i f) e
-      ∙ sumTo-next A (k + d) f
-      ∙ ap₂ (A .plus) (stop d (λ i a b. h i a (omega arith))) (h (k + d) (omega arith) (omega arith))
-      ∙ idr A (sumTo A k f)
-
-  sumTo-stop : (m : ℕ) → k ≤ m → ((i : ℕ) → k ≤ i → i < m → f i ≡ A .none) → sumTo A m f ≡ sumTo A k f
-  sumTo-stop m l h = let e : m ≡ k + (m - k) = omega arith in ap (λ i. sumTo A i f) e ∙ stop (m - k) (λ i a b. h i a (omega arith))
 
 -- ---- the place of a node after k turns: its own value if it is a cell, and the sums of those of its children that are below k
 

@@ -8,9 +8,9 @@ use lib.ListN.{length}
 use Rattle.numbers.specs.Sums.{ℕ-adds, ℤ-adds, sumTo}
 use Rattle.numbers.specs.Lists.{at, atℤ, listTo}
 use Rattle.caas.specs.Group.{Group}
-use Rattle.caas.specs.Split.{result}
 use Rattle.columns.specs.Columns.{width, MASS, LOW, HIGH, WEIGHT, FIRST, col, num}
-use Rattle.qlt.specs.Tree.{childOf, nodeSum, massAt, Valid}
+use Rattle.qlt.specs.Tree.{nodeSum, Valid}
+use Rattle.qlt.specs.Masses.{childrenBetween, massBetween}
 use Rattle.qlt.specs.Operation.{cleared}
 
 module _ (parents : List ℕ) (targets : List ℤ) where
@@ -23,21 +23,12 @@ module _ (parents : List ℕ) (targets : List ℤ) where
   targetOf = nodeSum ℤ-adds (at parents) (length targets) (length parents) (atℤ targets)
 
 module _ (parents : List ℕ) (targets : List ℤ) (lows highs weights : List ℕ) where
-  -- a node's children, with the sums over their cells
+  -- a node's children, and its mass, where the root has M
   abbrev pub nodeGroup : ℕ → Group
-  nodeGroup v =
-      record {
-        size = length parents;
-        has = λ u. childOf (at parents) u v;
-        target = targetOf parents targets;
-        low = nodeOf parents targets lows;
-        high = nodeOf parents targets highs;
-        weight = nodeOf parents targets weights;
-      }
+  nodeGroup v = childrenBetween (at parents) (length targets) (length parents) (atℤ targets) (at weights) (at lows) (at highs) v
 
-  -- a node's mass, where the root has M
-  unfoldable pub massOf : ℕ → ℕ → ℕ
-  massOf M = massAt (at parents) (length parents) (λ v. result (nodeGroup v)) M
+  abbrev pub massOf : ℕ → ℕ → ℕ
+  massOf M u = massBetween (at parents) (length targets) (length parents) (atℤ targets) (at weights) (at lows) (at highs) M u
 
   -- what solving needs: a tree without a fault, lists of one length, room in the scratch, bounds in order and sums that fit, and a total
   -- within the bounds

@@ -11,15 +11,14 @@ use lib.Dec.{eqb, leb}
 use lib.ListN.{length}
 use borrow.Author.Tests.{ltb-false, le-ltb, eq-eqb, ne-eqb, not-true}
 use Rattle.numbers.specs.declared.Checked.the-variants.{Pass}
-use Rattle.numbers.specs.Lists.{at}
-use Rattle.numbers.specs.Checks.{Decides, rule, ruleAt, inOrder, Holds, maxTotal}
+use Rattle.numbers.specs.Lists.{at, sum}
+use Rattle.numbers.specs.Checks.{both, Decides, DecidesAll, rule, ruleAt, Holds, maxTotal}
 use Rattle.numbers.proofs.TestLaws.{clash, and-means, lt-means, le-means, eq-means}
 use Rattle.numbers.proofs.CheckLaws.{decides-unless, decides-from, decides-then, decides-none, count-decides}
-use Rattle.columns.specs.Columns.{width}
 use Rattle.qlt.specs.Tree.{childOf, anyChild, parentOk, nodeOk, NodeRules, Valid}
-use Rattle.qlt.specs.Field.{Lists, cells, nodes, field, Ordered}
-use Rattle.qlt.specs.Checks.{sum, checkNodes, checkLists, checkTree, boundsOrdered, checkOrder, checkSum, checkReach, shapeChecks, shapeOf}
-use Rattle.qlt.specs.Operation.{Lengths}
+use Rattle.qlt.specs.Field.{Lists, cells, nodes, scratchPerNode, field, Ordered}
+use Rattle.qlt.specs.Checks.{checkNodes, checkLists, checkTree, boundsOrdered, checkOrder, checkSum, checkReach, checkShape, shapeOf, checkValues}
+use Rattle.qlt.specs.Operation.{Lengths, shapeRules, valueRules, reachRule, ShapeFits, ValuesFit, Reaches}
 
 -- ---- 1 to 3
 
@@ -37,7 +36,7 @@ module _ (f : Lists) (k s : ℕ) where
       (and-means (eq-means (length (f .highs)) (cells f))
       (and-means (eq-means (length (f .safeLows)) (cells f))
       (and-means (eq-means (length (f .safeHighs)) (cells f))
-      (and-means (eq-means (length (f .weights)) (cells f)) (le-means (width * nodes f) s)))))) in
+      (and-means (eq-means (length (f .weights)) (cells f)) (le-means (scratchPerNode * nodes f) s)))))) in
       decides-unless _ 3 (
         λ e.
             let h = t .0 e in
@@ -45,17 +44,22 @@ module _ (f : Lists) (k s : ℕ) where
         λ l. t .1 (l .masses, (l .lows, (l .highs, (l .safeLows, (l .safeHighs, (l .weights, l .scratch)))))),
       )
 
-  pub shape-decides : Decides (shapeOf k f s) (inOrder (rule 1 ((0 < cells f) × (cells f ≤ 512)) ∷ rule 2 ((cells f ≤ nodes f) × (nodes f ≤ 1024)) ∷ rule 3 (Lengths f k s) ∷ []))
-  unfolding shapeChecks
+  pub shape-decides : DecidesAll (shapeOf k f s) (shapeRules f k s)
+  unfolding checkShape shapeRules
   shape-decides =
       decides-then _ _ _ _ (count-decides (cells f))
       (decides-then _ _ _ _ (nodes-decides (cells f) (nodes f))
       (decides-then _ _ _ _ lists-decides decides-none))
 
-  -- what 1 to 3 leave to the checks after them
-  pub shape-passed : shapeOf k f s ≡ Pass → ((0 < cells f) × (cells f ≤ 512)) × (((cells f ≤ nodes f) × (nodes f ≤ 1024)) × Lengths f k s)
-  unfolding Holds
-  shape-passed e = let h = shape-decides .passes .0 e in (h .0, (h .1 .0, h .1 .1 .0))
+  pub shape-holds : Holds (shapeRules f k s) ↔ ShapeFits f k s
+  unfolding shapeRules Holds
+  shape-holds = (
+    λ h. record { some = h .0 .0; few = h .0 .1; nodes-room = h .1 .0 .0; nodes-few = h .1 .0 .1; lengths = h .1 .1 .0 },
+    λ r. ((r .some, r .few), ((r .nodes-room, r .nodes-few), (r .lengths, tt))),
+  )
+
+  pub shape-fits : (shapeOf k f s ≡ Pass) ↔ ShapeFits f k s
+  shape-fits = (λ e. shape-holds .0 (shape-decides .passes .0 e), λ r. shape-decides .passes .1 (shape-holds .1 r))
 
 -- ---- 4
 
@@ -133,7 +137,7 @@ valid {up} {n} {m} some room rules =
     below : (v : ℕ) → v < m - 1 → (v < up v) × ((n ≤ up v) × (up v ≤ m - 1))
     below v l = rules v (omega arith) .parent (λ e. omega arith)
 
--- ---- 5 to 8
+-- ---- 5 to 8, and the chains
 
 pub order-decides : (f : Lists) → Decides (checkOrder (cells f) (f .lows) (f .highs) (f .safeLows) (f .safeHighs)) (ruleAt 5 (cells f) (Ordered (field f)))
 unfolding checkOrder boundsOrdered
@@ -151,3 +155,32 @@ sum-decides number xs = decides-unless _ number (le-means (sum xs) maxTotal)
 pub reach-decides : (safeLows safeHighs : List ℕ) (M : ℕ) → Decides (checkReach safeLows safeHighs M) (rule 8 ((sum safeLows ≤ M) × (M ≤ sum safeHighs)))
 unfolding checkReach
 reach-decides safeLows safeHighs M = decides-unless _ 8 (and-means (le-means (sum safeLows) M) (le-means M (sum safeHighs)))
+
+module _ (f : Lists) where
+  pub values-decides : DecidesAll (checkValues f) (valueRules f)
+  unfolding checkValues valueRules
+  values-decides =
+      decides-then _ _ _ _ (tree-decides (cells f) (f .parents))
+      (decides-then _ _ _ _ (order-decides f)
+      (decides-then _ _ _ _ (sum-decides 6 (f .safeHighs))
+      (decides-then _ _ _ _ (sum-decides 7 (f .weights)) decides-none)))
+
+  pub values-hold : Holds (valueRules f) ↔ ValuesFit f
+  unfolding valueRules Holds
+  values-hold = (
+    λ h. record { tree = h .0; order = h .1 .0; safe-highs = h .1 .1 .0; weights = h .1 .1 .1 .0 },
+    λ r. (r .tree, (r .order, (r .safe-highs, (r .weights, tt)))),
+  )
+
+  pub values-fit : (checkValues f ≡ Pass) ↔ ValuesFit f
+  values-fit = (λ e. values-hold .0 (values-decides .passes .0 e), λ r. values-decides .passes .1 (values-hold .1 r))
+
+-- 8, as the last of a chain
+module _ (f : Lists) (M : ℕ) where
+  pub reaches-decides : DecidesAll (both (checkReach (f .safeLows) (f .safeHighs) M) Pass) (reachRule f M ∷ [])
+  reaches-decides = decides-then _ _ _ _ (reach-decides (f .safeLows) (f .safeHighs) M) decides-none
+
+  pub reaches : (checkReach (f .safeLows) (f .safeHighs) M ≡ Pass) ↔ Reaches f M
+  reaches =
+      let d = reach-decides (f .safeLows) (f .safeHighs) M .passes in
+      (λ e. record { least = d .0 e .0; most = d .0 e .1 }, λ r. d .1 (r .least, r .most))

@@ -13,13 +13,14 @@ use Rattle.numbers.proofs.ListLaws.{length-listTo, getD-listTo}
 use Rattle.caas.specs.Group.{Group, Each, Splits, Divides, distance}
 use Rattle.caas.specs.Split.{result, Proportional}
 use Rattle.caas.proofs.GroupLaws.{in-none, in-pos}
-use Rattle.caas.proofs.SplitLaws.{nat-within, result-adds, result-within, result-nearest, distance-ext, result-proportional}
+use Rattle.caas.proofs.SplitLaws.{nat-within, result-nearest, distance-ext, result-proportional}
 use Rattle.qlt.specs.Tree.{childOf, Valid}
 use Rattle.qlt.specs.Field.{Field, Outcome, Ordered, outcome, lowIn, highIn, Meets, changeOf, sumCells}
 use Rattle.qlt.specs.Masses.{groupOf, treeMass, treeMasses}
 use Rattle.qlt.specs.Facts.{FieldFacts}
 use Rattle.qlt.proofs.TreeLaws.{nodeSum-inner, nodeSum-cell, nodeSum-ext}
-use Rattle.qlt.proofs.MassLaws.{node, InBounds, Sharing, nodeSum-le, mass-root, mass-up, mass-child, mass-within, mass-sums, cells-sum}
+use Rattle.qlt.proofs.MassLaws.{node, InBounds}
+use Rattle.qlt.proofs.BetweenLaws.{between-root, between-up, between-child, between-in, between-can, between-sum, between-all}
 use Rattle.qlt.proofs.FieldLaws.{Case, is-attainable, is-below, is-above, case, force-room, force-order, force-safe-low, force-safe-high}
 use Rattle.qlt.proofs.MissLaws.{meets-room, least-of}
 
@@ -66,59 +67,49 @@ module _ (F : Field) (M : ℕ) where
     -- the root has M
     pub node-root : treeMass F M (F .m - 1) ≡ M
     unfolding treeMass
-    node-root = mass-root ok (λ v. result (group v)) M
+    node-root = between-root ok (F .target) (F .weight) (lowIn (outcome F M) F) (highIn (outcome F M) F) M
 
     -- any other node has what the split of its parent's mass gives it
     pub node-up : (u : ℕ) → u < F .m - 1 → treeMass F M u ≡ result (group (F .up u)) (treeMass F M (F .up u)) u
-    unfolding treeMass
-    node-up = mass-up ok (λ v. result (group v)) M
+    unfolding treeMass groupOf
+    node-up = between-up ok (F .target) (F .weight) (lowIn (outcome F M) F) (highIn (outcome F M) F) M
 
     -- the same, said of a child
     pub node-split : (v u : ℕ) → u < F .m → childOf (F .up) u v ≡ true → treeMass F M u ≡ result (group v) (treeMass F M v) u
-    unfolding treeMass
-    node-split = mass-child ok (λ v. result (group v)) M
+    unfolding treeMass groupOf
+    node-split = between-child ok (F .target) (F .weight) (lowIn (outcome F M) F) (highIn (outcome F M) F) M
 
 module _ (F : Field) (ok : Valid (F .up) (F .n) (F .m)) (ordered : (c : ℕ) → c < F .n → Ordered F c) where
-  -- a mass within a node's bounds in force can be split among its children
-  pub can-split : (o : Outcome) (v x : ℕ) → F .n ≤ v → v < F .m → InForce F o v x → Splits (groupOf F o v) x
-  unfolding groupOf
-  can-split o v x h l b =
-      record {
-        order = λ u k e. nodeSum-le (F .up) (F .n) (F .m) (lowIn o F) (highIn o F) (force-order F ordered o) u;
-        least = rw (nodeSum-inner ok ℕ-adds (lowIn o F) v h l) at (b .0);
-        most = rw (nodeSum-inner ok ℕ-adds (highIn o F) v h l) at (b .1);
-      }
-
-  -- so the split is a share as MassLaws asks for
-  sharing : (o : Outcome) → Sharing (F .up) (F .n) (F .m) (lowIn o F) (highIn o F) (λ v. result (groupOf F o v))
-  unfolding groupOf
-  sharing o =
-      record {
-        adds = λ v x h l b. result-adds (groupOf F o v) x (can-split o v x h l b);
-        within = λ v x h l b. result-within (groupOf F o v) x (can-split o v x h l b);
-      }
-
   module _ (M : ℕ) (least : sumCells F (F .safeLow) ≤ M) (most : M ≤ sumCells F (F .safeHigh)) where
     -- ---- the nodes' masses and their bounds
 
     -- each lies within the node's bounds in force
     pub node-in : (v : ℕ) → v < F .m → InForce F (outcome F M) v (treeMass F M v)
     unfolding treeMass
-    node-in = mass-within ok (λ v. result (group F M v)) M (sharing (outcome F M)) (force-room F M least most .0) (force-room F M least most .1)
+    node-in =
+        between-in ok (F .target) (F .weight) (lowIn (outcome F M) F) (highIn (outcome F M) F) (force-order F ordered (outcome F M)) M
+        (force-room F M least most .0) (force-room F M least most .1)
 
     -- so it can be split among the node's children
     pub node-can : (v : ℕ) → F .n ≤ v → v < F .m → Splits (group F M v) (treeMass F M v)
-    node-can v h l = can-split (outcome F M) v (treeMass F M v) h l (node-in v l)
+    unfolding treeMass groupOf
+    node-can =
+        between-can ok (F .target) (F .weight) (lowIn (outcome F M) F) (highIn (outcome F M) F) (force-order F ordered (outcome F M)) M
+        (force-room F M least most .0) (force-room F M least most .1)
 
     -- each is the sum over the node's cells
     pub node-sum : (v : ℕ) → v < F .m → nodeOf F (treeMass F M) v ≡ treeMass F M v
     unfolding treeMass
-    node-sum = mass-sums ok (λ v. result (group F M v)) M (sharing (outcome F M)) (force-room F M least most .0) (force-room F M least most .1)
+    node-sum =
+        between-sum ok (F .target) (F .weight) (lowIn (outcome F M) F) (highIn (outcome F M) F) (force-order F ordered (outcome F M)) M
+        (force-room F M least most .0) (force-room F M least most .1)
 
     -- the cells' masses add up to M
     pub all-sum : sumCells F (treeMass F M) ≡ M
     unfolding treeMass
-    all-sum = cells-sum ok (λ v. result (group F M v)) M (sharing (outcome F M)) (force-room F M least most .0) (force-room F M least most .1)
+    all-sum =
+        between-all ok (F .target) (F .weight) (lowIn (outcome F M) F) (highIn (outcome F M) F) (force-order F ordered (outcome F M)) M
+        (force-room F M least most .0) (force-room F M least most .1)
 
     -- ---- the same by the list of the cells' masses
 

@@ -1,68 +1,34 @@
 -- What Reconstruct's verdict means, that an answer tells its verdict and its values and nothing else, and what the contract alone says
 -- of an accepted and of a refused call. Assumes nothing.
-use mathlib.Core.Path.{_≡_, sym, _∙_, ap, subst}
+use mathlib.Core.Path.{_≡_, refl, sym, _∙_, ap, subst}
 use mathlib.Core.Logic.{_↔_}
 use mathlib.Core.List.{List, [], _∷_}
 use Prim.Native.Nat.{ℕ, _*_, _≤_}
 use native.Mathlib.Omega.{arith}
 use lib.IntN.{ℤ}
 use lib.ListN.{length}
+use Rattle.numbers.specs.declared.Checked.{Checked}
 use Rattle.numbers.specs.declared.Checked.the-variants.{Pass, Fail}
 use Rattle.numbers.specs.Sums.{ℕ-adds, sumTo}
-use Rattle.numbers.specs.Lists.{at}
-use Rattle.numbers.specs.Checks.{after, both, Decides, rule, ruleAt, inOrder, Holds, Broken, maxTotal}
-use Rattle.numbers.proofs.CheckLaws.{answered-accepted, answered-refused, on, both-first, both-second, both-assoc, both-pass, decides-then, decides-append, decides-none}
-use Rattle.columns.specs.Columns.{width}
+use Rattle.numbers.specs.Lists.{at, sum}
+use Rattle.numbers.specs.Checks.{Answered, accepted, refused, answered, after, both, DecidesAll, Broken, RefuseWith}
+use Rattle.numbers.proofs.TestLaws.{injective}
+use Rattle.numbers.proofs.CheckLaws.{answered-accepted, answered-refused, after-fail, on, last, both-first, both-second, decides-append}
+use Rattle.numbers.proofs.ChainLaws.{refuse-with}
 use Rattle.qlt.specs.declared.Repair.{Repair}
 use Rattle.qlt.specs.declared.Reconstructed.{Reconstructed}
 use Rattle.qlt.specs.declared.Reconstructed.the-variants.{Done, Refused}
-use Rattle.qlt.specs.Tree.{NodeRules, Valid}
-use Rattle.qlt.specs.Field.{Lists, cells, nodes, field, Ordered}
+use Rattle.qlt.specs.Tree.{Valid}
+use Rattle.qlt.specs.Field.{Lists, cells, nodes, scratchPerNode, field}
 use Rattle.qlt.specs.Masses.{treeMasses}
-use Rattle.qlt.specs.Checks.{sum, shapeOf, valueChecks, checkReach}
-use Rattle.qlt.specs.Operation.{Call, verdict, fieldRules, reachRule, rules, FieldFits, Fits, repair, tells, cleared, ReconstructContract}
+use Rattle.qlt.specs.Checks.{shapeOf, checkValues, checkReach}
+use Rattle.qlt.specs.Operation.{Call, verdict, shapeRules, valueRules, rules, ShapeFits, ValuesFit, Fits, repair, tells, reconstructAnswer, cleared, RepairContract, ReconstructContract}
 use Rattle.qlt.specs.Facts.{FieldFacts}
 use Rattle.qlt.proofs.FactLaws.{facts}
-use Rattle.qlt.proofs.CheckLaws.{shape-decides, tree-decides, order-decides, sum-decides, reach-decides, valid}
+use Rattle.qlt.proofs.CheckLaws.{shape-decides, shape-fits, values-decides, values-fit, reaches-decides, reaches, valid}
 
--- ---- 1 to 7, which Step shares
-
-pub values-decides : (f : Lists) → Decides (valueChecks f) (inOrder (ruleAt 4 (nodes f) (NodeRules (at (f .parents)) (cells f) (nodes f)) ∷ ruleAt 5 (cells f) (Ordered (field f)) ∷ rule 6 (sum (f .safeHighs) ≤ maxTotal) ∷ rule 7 (sum (f .weights) ≤ maxTotal) ∷ []))
-unfolding valueChecks
-values-decides f =
-    decides-then _ _ _ _ (tree-decides (cells f) (f .parents))
-    (decides-then _ _ _ _ (order-decides f)
-    (decides-then _ _ _ _ (sum-decides 6 (f .safeHighs))
-    (decides-then _ _ _ _ (sum-decides 7 (f .weights)) decides-none)))
-
-module _ (f : Lists) (k s : ℕ) where
-  pub field-decides : Decides (both (shapeOf k f s) (valueChecks f)) (inOrder (fieldRules f k s))
-  unfolding fieldRules
-  field-decides = decides-append (shapeOf k f s) (valueChecks f) _ _ (shape-decides f k s) (values-decides f)
-
-  rules-fit : Holds (fieldRules f k s) ↔ FieldFits f k s
-  unfolding fieldRules Holds
-  rules-fit = (
-    λ h.
-        record {
-          some = h .0 .0;
-          few = h .0 .1;
-          nodes-room = h .1 .0 .0;
-          nodes-few = h .1 .0 .1;
-          lengths = h .1 .1 .0;
-          tree = h .1 .1 .1 .0;
-          order = h .1 .1 .1 .1 .0;
-          safe-highs = h .1 .1 .1 .1 .1 .0;
-          weights = h .1 .1 .1 .1 .1 .1 .0;
-        },
-    λ r. ((r .some, r .few), ((r .nodes-room, r .nodes-few), (r .lengths, (r .tree, (r .order, (r .safe-highs, (r .weights, tt))))))),
-  )
-
-  pub field-fits : (both (shapeOf k f s) (valueChecks f) ≡ Pass) ↔ FieldFits f k s
-  field-fits = (λ e. rules-fit .0 (field-decides .passes .0 e), λ r. field-decides .passes .1 (rules-fit .1 r))
-
-pub fits-valid : {f : Lists} {k s : ℕ} → FieldFits f k s → Valid (at (f .parents)) (cells f) (nodes f)
-fits-valid r = valid (r .some) (r .nodes-room) (r .tree)
+pub fits-valid : {f : Lists} {k s : ℕ} → ShapeFits f k s → ValuesFit f → Valid (at (f .parents)) (cells f) (nodes f)
+fits-valid h r = valid (h .some) (h .nodes-room) (r .tree)
 
 -- ---- the verdict
 
@@ -73,81 +39,96 @@ module _ (c : Call) where
   abbrev s : ℕ
   s = length (c .scratch)
 
-  reach-rule : Decides (both (checkReach (c .lists .safeLows) (c .lists .safeHighs) (c .total)) Pass) (inOrder (reachRule (c .lists) (c .total) ∷ []))
-  reach-rule = decides-then _ _ _ _ (reach-decides (c .lists .safeLows) (c .lists .safeHighs) (c .total)) decides-none
+  abbrev reach : Checked
+  reach = checkReach (c .lists .safeLows) (c .lists .safeHighs) (c .total)
 
   -- accepted if every rule holds; refused with a number at a place if those before it hold and this one is broken there
-  pub verdict-decides : Decides (verdict c) (inOrder (rules c))
+  pub verdict-decides : DecidesAll (verdict c) (rules c)
   unfolding verdict
   verdict-decides =
-      subst (λ v. Decides v (inOrder (rules c))) (both-assoc (shapeOf k (c .lists) s) (valueChecks (c .lists)) _)
-      (decides-append _ _ (fieldRules (c .lists) k s) _ (field-decides (c .lists) k s) reach-rule)
+      decides-append (shapeOf k (c .lists) s) (both (checkValues (c .lists)) (both reach Pass)) (shapeRules (c .lists) k s) _ (shape-decides (c .lists) k s)
+      (decides-append (checkValues (c .lists)) (both reach Pass) (valueRules (c .lists)) _ (values-decides (c .lists)) (reaches-decides (c .lists) (c .total)))
 
   pub refuses : (number place : ℕ) → (verdict c ≡ Fail number place) ↔ Broken (rules c) number place
   refuses = verdict-decides .fails
 
-  chain : verdict c ≡ both (both (shapeOf k (c .lists) s) (valueChecks (c .lists))) (checkReach (c .lists .safeLows) (c .lists .safeHighs) (c .total))
-  unfolding verdict
-  chain = sym (both-assoc (shapeOf k (c .lists) s) (valueChecks (c .lists)) _) ∙ ap (both (both (shapeOf k (c .lists) s) (valueChecks (c .lists)))) (both-pass _)
-
   pub accepts : (verdict c ≡ Pass) ↔ Fits c
-  accepts =
-      let d = reach-decides (c .lists .safeLows) (c .lists .safeHighs) (c .total) in
-      let fits = field-fits (c .lists) k s in (
-        λ e.
-            let p = sym chain ∙ e in
-            let l = d .passes .0 (both-second (both (shapeOf k (c .lists) s) (valueChecks (c .lists))) _ p) in
-            record { field-fits = fits .0 (both-first _ _ p); least = l .0; most = l .1 },
-        λ r. chain ∙ sym (on (fits .1 (r .field-fits)) (sym (d .passes .1 (r .least, r .most)))),
-      )
+  unfolding verdict
+  accepts = (
+    λ e.
+        let p = both-second (shapeOf k (c .lists) s) _ e in
+        record {
+          shape = shape-fits (c .lists) k s .0 (both-first (shapeOf k (c .lists) s) _ e);
+          values = values-fit (c .lists) .0 (both-first (checkValues (c .lists)) _ p);
+          reach = reaches (c .lists) (c .total) .0 (both-first reach Pass (both-second (checkValues (c .lists)) _ p));
+        },
+    λ r.
+        sym (on (shape-fits (c .lists) k s .1 (r .shape))
+        (on (values-fit (c .lists) .1 (r .values)) (last reach (sym (reaches (c .lists) (c .total) .1 (r .reach)))))),
+  )
+
+  -- it refuses with 01's numbers and no others
+  pub reconstruct-numbers : RefuseWith (rules c) (1 ∷ 2 ∷ 3 ∷ 4 ∷ 5 ∷ 6 ∷ 7 ∷ 8 ∷ [])
+  unfolding shapeRules valueRules
+  reconstruct-numbers = refuse-with (rules c) _ refl refl
 
 -- ---- the answer
 
 -- what an answer tells is the answer
 pub tells-injective : (a b : Reconstructed) → tells a ≡ tells b → a ≡ b
 unfolding tells
-tells-injective (Done r) (Done q) e = cc
-tells-injective (Done r) (Refused n p) e = let z : _≡_ {A = ℕ} 0 1 = cc in absurd (omega arith)
-tells-injective (Refused n p) (Done r) e = let z : _≡_ {A = ℕ} 0 1 = cc in absurd (omega arith)
-tells-injective (Refused n p) (Refused m q) e = cc
+tells-injective = injective reconstructAnswer back
+  where
+    back : (a : Reconstructed) → reconstructAnswer (tells a) ≡ a
+    back (Done r) = refl
+    back (Refused number place) = refl
 
 -- an accepted call's masses have every fact
 pub fits-facts : (c : Call) → Fits c → FieldFacts (field (c .lists)) (c .total) (treeMasses (field (c .lists)) (c .total))
 fits-facts c f =
-    let l = f .field-fits .lengths in
-    facts (field (c .lists)) (fits-valid (f .field-fits)) (f .field-fits .order) (c .total)
-    (subst (λ n. sumTo ℕ-adds n (at (c .lists .safeLows)) ≤ c .total) (l .safeLows) (f .least))
-    (subst (λ n. c .total ≤ sumTo ℕ-adds n (at (c .lists .safeHighs))) (l .safeHighs) (f .most))
+    let l = f .shape .lengths in
+    facts (field (c .lists)) (fits-valid (f .shape) (f .values)) (f .values .order) (c .total)
+    (subst (λ n. sumTo ℕ-adds n (at (c .lists .safeLows)) ≤ c .total) (l .safeLows) (f .reach .least))
+    (subst (λ n. c .total ≤ sumTo ℕ-adds n (at (c .lists .safeHighs))) (l .safeHighs) (f .reach .most))
 
--- ---- from the contract alone
+-- ---- from the contract alone, by any verdict: Reconstruct's and Step's alike
 
--- a call answered Done fits; its answer, its masses and its scratch are what the definitions say
-module _ {c : Call} {r : Repair} {masses : List ℕ} {scratch : List ℤ} (p : ReconstructContract c (Done r) masses scratch) where
-  told : (verdict c ≡ Pass) × (r ≡ repair (c .lists) (c .total))
-  unfolding tells
-  told = answered-accepted (verdict c) r (repair (c .lists) (c .total)) (p .answers)
+module _ {v : Checked} {c : Call} {masses : List ℕ} {scratch : List ℤ} where
+  -- a call that told a repair passed; its answer, its masses and its scratch are what the definitions say
+  module _ {r : Repair} (p : RepairContract v c (accepted r) masses scratch) where
+    pub told-passed : v ≡ Pass
+    told-passed = answered-accepted v r (repair (c .lists) (c .total)) (p .answers) .0
 
-  pub done-fits : Fits c
-  done-fits = accepts c .0 (told .0)
+    pub told-repair : r ≡ repair (c .lists) (c .total)
+    told-repair = answered-accepted v r (repair (c .lists) (c .total)) (p .answers) .1
 
-  pub done-repair : r ≡ repair (c .lists) (c .total)
-  done-repair = told .1
+    pub told-masses : masses ≡ treeMasses (field (c .lists)) (c .total)
+    told-masses = p .leaves .writes ∙ ap (λ w. after w (treeMasses (field (c .lists)) (c .total)) (c .masses)) told-passed
 
-  pub done-masses : masses ≡ treeMasses (field (c .lists)) (c .total)
-  done-masses = p .writes ∙ ap (λ v. after v (treeMasses (field (c .lists)) (c .total)) (c .masses)) (told .0)
+    pub told-scratch : scratch ≡ cleared (scratchPerNode * nodes (c .lists)) (c .scratch)
+    told-scratch = p .leaves .clears ∙ ap (λ w. after w (cleared (scratchPerNode * nodes (c .lists)) (c .scratch)) (c .scratch)) told-passed
 
-  -- every fact of the whole tree (C4 to C9 and C11)
-  pub done-facts : FieldFacts (field (c .lists)) (c .total) masses
-  done-facts = subst (FieldFacts (field (c .lists)) (c .total)) (sym done-masses) (fits-facts c done-fits)
+  -- one that told a refusal was refused so, and left both lists as they were
+  module _ {number place : ℕ} (p : RepairContract v c (refused number place) masses scratch) where
+    pub told-failed : v ≡ Fail number place
+    told-failed = answered-refused v (repair (c .lists) (c .total)) number place (p .answers)
 
-  pub done-scratch : scratch ≡ cleared (width * nodes (c .lists)) (c .scratch)
-  done-scratch = p .leaves ∙ ap (λ v. after v (cleared (width * nodes (c .lists)) (c .scratch)) (c .scratch)) (told .0)
-
--- a refused call left both lists as they were, and broke the rule of its number
-pub refused-keeps : {c : Call} {number place : ℕ} {masses : List ℕ} {scratch : List ℤ} → ReconstructContract c (Refused number place) masses scratch → (masses ≡ c .masses) × ((scratch ≡ c .scratch) × Broken (rules c) number place)
-unfolding tells
-refused-keeps {c} {number} {place} p =
-    let e = answered-refused (verdict c) (repair (c .lists) (c .total)) number place (p .answers) in (
-      p .writes ∙ ap (λ v. after v (treeMasses (field (c .lists)) (c .total)) (c .masses)) e,
-      (p .leaves ∙ ap (λ v. after v (cleared (width * nodes (c .lists)) (c .scratch)) (c .scratch)) e, refuses c number place .0 e),
+    pub told-kept : (masses ≡ c .masses) × (scratch ≡ c .scratch)
+    told-kept = (
+      p .leaves .writes ∙ ap (λ w. after w (treeMasses (field (c .lists)) (c .total)) (c .masses)) told-failed,
+      p .leaves .clears ∙ ap (λ w. after w (cleared (scratchPerNode * nodes (c .lists)) (c .scratch)) (c .scratch)) told-failed,
     )
+
+-- and the contract by the verdict: of a call that is refused, and of one that is accepted
+pub contract-refused : {v : Checked} (c : Call) {number place : ℕ} → v ≡ Fail number place → RepairContract v c (refused number place) (c .masses) (c .scratch)
+contract-refused c e = record { answers = ap (λ w. answered w (repair (c .lists) (c .total))) (sym e); leaves = record { writes = after-fail _ _ e; clears = after-fail _ _ e } }
+
+pub contract-done :
+    {v : Checked} (c : Call) {told : Answered Repair} {masses : List ℕ} {scratch : List ℤ} → v ≡ Pass → RepairContract Pass c told masses scratch
+    → RepairContract v c told masses scratch
+contract-done c {told} {masses} {scratch} e p = subst (λ w. RepairContract w c told masses scratch) (sym e) p
+
+-- every fact of the whole tree (C4 to C9 and C11) of a call that was answered Done
+pub done-facts : {c : Call} (r : Repair) {masses : List ℕ} {scratch : List ℤ} → ReconstructContract c (Done r) masses scratch → FieldFacts (field (c .lists)) (c .total) masses
+unfolding tells
+done-facts {c} r p = subst (FieldFacts (field (c .lists)) (c .total)) (sym (told-masses p)) (fits-facts c (accepts c .0 (told-passed p)))

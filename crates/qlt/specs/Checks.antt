@@ -5,16 +5,10 @@ use Prim.Native.Nat.{ℕ, _*_}
 use lib.Dec.{leb, eqb}
 use lib.ListN.{length}
 use Rattle.numbers.specs.declared.Checked.{Checked}
-use Rattle.numbers.specs.Sums.{ℕ-adds, sumTo}
-use Rattle.numbers.specs.Lists.{at}
+use Rattle.numbers.specs.Lists.{at, sum}
 use Rattle.numbers.specs.Checks.{unless, first, firstFrom, checkCount, maxTotal}
-use Rattle.columns.specs.Columns.{width}
 use Rattle.qlt.specs.Tree.{nodeOk}
-use Rattle.qlt.specs.Field.{Lists, cells, nodes}
-
--- the sum of a list
-abbrev pub sum : List ℕ → ℕ
-sum xs = sumTo ℕ-adds (length xs) (at xs)
+use Rattle.qlt.specs.Field.{Lists, cells, nodes, scratchPerNode}
 
 -- 2: m below n or above 1024
 unfoldable pub checkNodes : ℕ → ℕ → Checked
@@ -24,7 +18,7 @@ checkNodes n m = unless (leb n m && leb m 1024) 2 0
 unfoldable pub checkLists : (n m masses lows highs safeLows safeHighs weights scratch : ℕ) → Checked
 checkLists n m masses lows highs safeLows safeHighs weights scratch =
     unless
-    (eqb masses n && (eqb lows n && (eqb highs n && (eqb safeLows n && (eqb safeHighs n && (eqb weights n && leb (width * m) scratch))))))
+    (eqb masses n && (eqb lows n && (eqb highs n && (eqb safeLows n && (eqb safeHighs n && (eqb weights n && leb (scratchPerNode * m) scratch))))))
     3 0
 
 -- 4: the smallest node that breaks a rule of the tree
@@ -47,21 +41,29 @@ checkSum number xs = unless (leb (sum xs) maxTotal) number 0
 unfoldable pub checkReach : (safeLows safeHighs : List ℕ) → ℕ → Checked
 checkReach safeLows safeHighs M = unless (leb (sum safeLows) M && leb M (sum safeHighs)) 8 0
 
+-- ---- the chains that operations are made of
+
 -- 1 to 3, of lengths alone
-unfoldable pub shapeChecks : (n m masses lows highs safeLows safeHighs weights scratch : ℕ) → Checked
+abbrev pub shapeChecks : (n m masses lows highs safeLows safeHighs weights scratch : ℕ) → List Checked
 shapeChecks n m masses lows highs safeLows safeHighs weights scratch =
-    first (checkCount n ∷ checkNodes n m ∷ checkLists n m masses lows highs safeLows safeHighs weights scratch ∷ [])
+    checkCount n ∷ checkNodes n m ∷ checkLists n m masses lows highs safeLows safeHighs weights scratch ∷ []
+
+unfoldable pub checkShape : (n m masses lows highs safeLows safeHighs weights scratch : ℕ) → Checked
+checkShape n m masses lows highs safeLows safeHighs weights scratch =
+    first (shapeChecks n m masses lows highs safeLows safeHighs weights scratch)
 
 abbrev pub shapeOf : ℕ → Lists → ℕ → Checked
 shapeOf masses f scratch =
-    shapeChecks (cells f) (nodes f) masses (length (f .lows)) (length (f .highs)) (length (f .safeLows)) (length (f .safeHighs)) (length (f .weights)) scratch
+    checkShape (cells f) (nodes f) masses (length (f .lows)) (length (f .highs)) (length (f .safeLows)) (length (f .safeHighs)) (length (f .weights)) scratch
 
 -- 4 to 7, of the field's values
-unfoldable pub valueChecks : Lists → Checked
+abbrev pub valueChecks : Lists → List Checked
 valueChecks f =
-    first
-    (checkTree (cells f) (f .parents)
+    checkTree (cells f) (f .parents)
     ∷ checkOrder (cells f) (f .lows) (f .highs) (f .safeLows) (f .safeHighs)
     ∷ checkSum 6 (f .safeHighs)
     ∷ checkSum 7 (f .weights)
-    ∷ [])
+    ∷ []
+
+unfoldable pub checkValues : Lists → Checked
+checkValues f = first (valueChecks f)

@@ -56,6 +56,10 @@ field f =
       weight = at (f .weights);
     }
 
+-- 01's scratch: so many signed 64-bit numbers for each node
+abbrev pub scratchPerNode : ℕ
+scratchPerNode = 6
+
 -- the sum over all cells
 abbrev pub sumCells : Field → (ℕ → ℕ) → ℕ
 sumCells F f = sumTo ℕ-adds (F .n) f
@@ -72,8 +76,12 @@ pub record Ordered (F : Field) (c : ℕ) : Type 0 where
 pub data Outcome : Type 0 where
   attainable below above : Outcome
 
+-- by the two sums
+abbrev pub outcomeBy : (low high M : ℕ) → Outcome
+outcomeBy low high M = cond (ltb M low) below (cond (ltb high M) above attainable)
+
 unfoldable pub outcome : Field → ℕ → Outcome
-outcome F M = cond (ltb M (sumCells F (F .low))) below (cond (ltb (sumCells F (F .high)) M) above attainable)
+outcome F M = outcomeBy (sumCells F (F .low)) (sumCells F (F .high)) M
 
 unfoldable pub number : Outcome → ℕ
 number attainable = 0

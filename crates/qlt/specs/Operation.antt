@@ -5,16 +5,15 @@ use Prim.Native.Nat.{ℕ, _*_, _≤_, _<_}
 use lib.IntN.{ℤ, pos}
 use lib.ListN.{length}
 use Rattle.numbers.specs.declared.Checked.{Checked}
-use Rattle.numbers.specs.Lists.{at, listTo, written}
+use Rattle.numbers.specs.Lists.{at, listTo, written, sum}
 use Rattle.numbers.specs.Checks.{Answered, accepted, refused, answered, after, first, Rule, rule, ruleAt, maxTotal}
-use Rattle.columns.specs.Columns.{width}
 use Rattle.qlt.specs.declared.Repair.{Repair}
 use Rattle.qlt.specs.declared.Reconstructed.{Reconstructed}
 use Rattle.qlt.specs.declared.Reconstructed.the-variants.{Done, Refused}
 use Rattle.qlt.specs.Tree.{NodeRules}
-use Rattle.qlt.specs.Field.{Lists, cells, nodes, field, Ordered, outcome, number, changeOf}
+use Rattle.qlt.specs.Field.{Lists, cells, nodes, scratchPerNode, field, Ordered, outcome, number, changeOf}
 use Rattle.qlt.specs.Masses.{treeMass, treeMasses}
-use Rattle.qlt.specs.Checks.{sum, shapeOf, valueChecks, checkReach}
+use Rattle.qlt.specs.Checks.{shapeOf, checkValues, checkReach}
 
 -- all that a call is given
 pub record Call : Type 0 where
@@ -26,13 +25,16 @@ pub record Call : Type 0 where
 abbrev pub call : Lists → ℕ → List ℕ → List ℤ → Call
 call lists total masses scratch = record { lists = lists; total = total; masses = masses; scratch = scratch }
 
-unfoldable pub verdict : Call → Checked
-verdict c =
-    first
-    (shapeOf (length (c .masses)) (c .lists) (length (c .scratch))
-    ∷ valueChecks (c .lists)
+-- 1 to 3; 4 to 7; 8
+abbrev pub reconstructChecks : Call → List Checked
+reconstructChecks c =
+    shapeOf (length (c .masses)) (c .lists) (length (c .scratch))
+    ∷ checkValues (c .lists)
     ∷ checkReach (c .lists .safeLows) (c .lists .safeHighs) (c .total)
-    ∷ [])
+    ∷ []
+
+unfoldable pub verdict : Call → Checked
+verdict c = first (reconstructChecks c)
 
 -- ---- what the checks mean
 
@@ -44,15 +46,19 @@ pub record Lengths (f : Lists) (k s : ℕ) : Type 0 where
   pub safeLows : length (f .safeLows) ≡ cells f
   pub safeHighs : length (f .safeHighs) ≡ cells f
   pub weights : length (f .weights) ≡ cells f
-  pub scratch : width * nodes f ≤ s
+  pub scratch : scratchPerNode * nodes f ≤ s
 
--- the rules of 1 to 7, which Step shares, in 01's order; and that of 8
-unfoldable pub fieldRules : Lists → ℕ → ℕ → List Rule
-fieldRules f k s =
+-- the rules of 1 to 3, of 4 to 7, and of 8, which Step shares, in 01's order
+unfoldable pub shapeRules : Lists → ℕ → ℕ → List Rule
+shapeRules f k s =
     rule 1 ((0 < cells f) × (cells f ≤ 512))
     ∷ rule 2 ((cells f ≤ nodes f) × (nodes f ≤ 1024))
     ∷ rule 3 (Lengths f k s)
-    ∷ ruleAt 4 (nodes f) (NodeRules (at (f .parents)) (cells f) (nodes f))
+    ∷ []
+
+unfoldable pub valueRules : Lists → List Rule
+valueRules f =
+    ruleAt 4 (nodes f) (NodeRules (at (f .parents)) (cells f) (nodes f))
     ∷ ruleAt 5 (cells f) (Ordered (field f))
     ∷ rule 6 (sum (f .safeHighs) ≤ maxTotal)
     ∷ rule 7 (sum (f .weights) ≤ maxTotal)
@@ -62,25 +68,33 @@ abbrev pub reachRule : Lists → ℕ → Rule
 reachRule f M = rule 8 ((sum (f .safeLows) ≤ M) × (M ≤ sum (f .safeHighs)))
 
 abbrev pub rules : Call → List Rule
-rules c = fieldRules (c .lists) (length (c .masses)) (length (c .scratch)) ++ (reachRule (c .lists) (c .total) ∷ [])
+rules c = shapeRules (c .lists) (length (c .masses)) (length (c .scratch)) ++ (valueRules (c .lists) ++ (reachRule (c .lists) (c .total) ∷ []))
 
--- a field that breaks none of 1 to 7
-pub record FieldFits (f : Lists) (k s : ℕ) : Type 0 where
+-- a field that breaks none of 1 to 3
+pub record ShapeFits (f : Lists) (k s : ℕ) : Type 0 where
   pub some : 0 < cells f
   pub few : cells f ≤ 512
   pub nodes-room : cells f ≤ nodes f
   pub nodes-few : nodes f ≤ 1024
   pub lengths : Lengths f k s
+
+-- none of 4 to 7
+pub record ValuesFit (f : Lists) : Type 0 where
   pub tree : (v : ℕ) → v < nodes f → NodeRules (at (f .parents)) (cells f) (nodes f) v
   pub order : (c : ℕ) → c < cells f → Ordered (field f) c
   pub safe-highs : sum (f .safeHighs) ≤ maxTotal
   pub weights : sum (f .weights) ≤ maxTotal
 
+-- a total that does not break 8
+pub record Reaches (f : Lists) (M : ℕ) : Type 0 where
+  pub least : sum (f .safeLows) ≤ M
+  pub most : M ≤ sum (f .safeHighs)
+
 -- a call that breaks none
 pub record Fits (c : Call) : Type 0 where
-  pub field-fits : FieldFits (c .lists) (length (c .masses)) (length (c .scratch))
-  pub least : sum (c .lists .safeLows) ≤ c .total
-  pub most : c .total ≤ sum (c .lists .safeHighs)
+  pub shape : ShapeFits (c .lists) (length (c .masses)) (length (c .scratch))
+  pub values : ValuesFit (c .lists)
+  pub reach : Reaches (c .lists) (c .total)
 
 -- ---- the answer, and the lists at exit
 
@@ -88,17 +102,29 @@ pub record Fits (c : Call) : Type 0 where
 unfoldable pub repair : Lists → ℕ → Repair
 repair f M = record { outcome = number (outcome (field f) M); total = M; change = changeOf (field f) (treeMass (field f) M) }
 
--- what an answer tells
+-- what an answer tells, and the answer that tells it
 unfoldable pub tells : Reconstructed → Answered Repair
 tells (Done r) = accepted r
 tells (Refused number place) = refused number place
+
+abbrev pub reconstructAnswer : Answered Repair → Reconstructed
+reconstructAnswer (accepted r) = Done r
+reconstructAnswer (refused number place) = Refused number place
 
 -- the first k numbers are 0, the others as they were
 unfoldable pub cleared : ℕ → List ℤ → List ℤ
 cleared k s = written s 0 (listTo k (λ i. pos 0))
 
+-- what a call leaves in its lists by a verdict: the masses of its field for its total and a cleared scratch, or both as they were
+pub record Leaves (v : Checked) (c : Call) (masses : List ℕ) (scratch : List ℤ) : Type 0 where
+  pub writes : masses ≡ after v (treeMasses (field (c .lists)) (c .total)) (c .masses)
+  pub clears : scratch ≡ after v (cleared (scratchPerNode * nodes (c .lists)) (c .scratch)) (c .scratch)
+
+-- and what it tells
+pub record RepairContract (v : Checked) (c : Call) (told : Answered Repair) (masses : List ℕ) (scratch : List ℤ) : Type 0 where
+  pub answers : told ≡ answered v (repair (c .lists) (c .total))
+  pub leaves : Leaves v c masses scratch
+
 -- the whole contract of the operation
-pub record ReconstructContract (c : Call) (answer : Reconstructed) (masses : List ℕ) (scratch : List ℤ) : Type 0 where
-  pub answers : tells answer ≡ answered (verdict c) (repair (c .lists) (c .total))
-  pub writes : masses ≡ after (verdict c) (treeMasses (field (c .lists)) (c .total)) (c .masses)
-  pub leaves : scratch ≡ after (verdict c) (cleared (width * nodes (c .lists)) (c .scratch)) (c .scratch)
+abbrev pub ReconstructContract : Call → Reconstructed → List ℕ → List ℤ → Type 0
+ReconstructContract c answer masses scratch = RepairContract (verdict c) c (tells answer) masses scratch

@@ -14,8 +14,8 @@ use Rattle.caas.specs.Split.{clip, clipped, deficit, capacity, portion, firstSh
 use Rattle.qlt.specs.declared.Repair.{Repair}
 use Rattle.qlt.specs.Tree.{leads, childOf, anyChild, nodeSum, parentOk, nodeOk, massFrom, massAt}
 use Rattle.qlt.specs.Field.{lists, field, outcome, number, lowIn, highIn, changeOf}
-use Rattle.qlt.specs.Masses.{groupOf, treeMass, treeMasses}
-use Rattle.qlt.specs.Checks.{checkNodes, checkLists, checkTree, boundsOrdered, checkOrder, checkSum, checkReach, shapeChecks, valueChecks}
+use Rattle.qlt.specs.Masses.{massBetween, groupOf, treeMass, treeMasses}
+use Rattle.qlt.specs.Checks.{checkNodes, checkLists, checkTree, boundsOrdered, checkOrder, checkSum, checkReach, checkShape, checkValues}
 use Rattle.qlt.specs.Operation.{Call, call, verdict, repair}
 
 -- a call, what it tells, and the masses that it leaves
@@ -60,5 +60,5 @@ got r =
 
 -- what the definitions give, in every row
 pub strays : map got rows ≡ rows
-unfolding sumTo listTo minℤ maxℤ quota eachFrom firstFrom checkCount clip clipped deficit capacity portion firstShare remainder left secondShare shares result leads childOf anyChild nodeSum parentOk nodeOk massFrom massAt outcome number lowIn highIn changeOf groupOf treeMass treeMasses checkNodes checkLists checkTree boundsOrdered checkOrder checkSum checkReach shapeChecks valueChecks verdict repair
+unfolding sumTo listTo minℤ maxℤ quota eachFrom firstFrom checkCount clip clipped deficit capacity portion firstShare remainder left secondShare shares result leads childOf anyChild nodeSum parentOk nodeOk massFrom massAt outcome number lowIn highIn changeOf massBetween groupOf treeMass treeMasses checkNodes checkLists checkTree boundsOrdered checkOrder checkSum checkReach checkShape checkValues verdict repair
 strays = refl

@@ -1,6 +1,9 @@
 // QLT over whole masses: the tree, the field, the bounds in force, the whole tree and what holds of it, and what the operation
 // Reconstruct checks, answers and writes. Definitions (specs/) and laws (proofs/) alone; the code is in the crates `solve` and
-// `reconstruct`. Relies on `columns` (the scratch's width), `caas` and `numbers`.
+// `reconstruct`. Relies on `caas` and `numbers`.
+
+// The numbers of scratch for each node; `scratchPerNode` in specs/Field.antt.
+pub const SCRATCH_PER_NODE: usize = 6;
 
 // What an accepted field gives beside its masses, in 01's terms: the outcome, M and the change.
 pub struct Repair {

@@ -1,9 +1,11 @@
 // What a call leaves by its verdict: the masses by the bounds in force of its outcome, or nothing. Relies on `solve` and `checks`.
 ghost use mathlib.Core.Path.{_≡_};
+ghost use Rattle.numbers.specs.declared.Checked.the-variants.{Pass};
+ghost use Rattle.numbers.specs.Checks.{accepted};
 ghost use Rattle.qlt.specs.Field.{lists};
 ghost use Rattle.qlt.specs.Operation as operation;
-ghost use Rattle.qlt.specs.Operation.{call, Fits, ReconstructContract};
-ghost use Rattle.reconstruct.specs.Rebuild.{outcomeNumber, Rebuilt, Repaired};
+ghost use Rattle.qlt.specs.Operation.{call, Fits, RepairContract, ReconstructContract};
+ghost use Rattle.reconstruct.specs.Rebuild.{outcomeNumber, Rebuilt};
 use checks::inner::outcome_of;
 use numbers::Checked;
 use qlt::Reconstructed;
@@ -79,7 +81,7 @@ pub fn repaired(
     scratch: &mut [i64],
 ) -> Repair
     requires { ⌜ Fits (call (lists (now targets) (now lows) (now highs) (now «safe_lows») (now «safe_highs») (now weights) (now parents)) total (now masses) (now scratch)) ⌝ }
-    ensures { λ r. ⌜ Repaired (call (lists (now (targets .entry)) (now (lows .entry)) (now (highs .entry)) (now («safe_lows» .entry)) (now («safe_highs» .entry)) (now (weights .entry)) (now (parents .entry))) total (now (masses .entry)) (now (scratch .entry))) r (now (masses .exit)) (now (scratch .exit)) ⌝ }
+    ensures { λ r. ⌜ RepairContract Pass (call (lists (now (targets .entry)) (now (lows .entry)) (now (highs .entry)) (now («safe_lows» .entry)) (now («safe_highs» .entry)) (now (weights .entry)) (now (parents .entry))) total (now (masses .entry)) (now (scratch .entry))) (accepted r) (now (masses .exit)) (now (scratch .exit)) ⌝ }
 {
     let outcome = outcome_of(lows, highs, total);
     let change = rebuild(

@@ -3,10 +3,11 @@ ghost use mathlib.Core.Path.{_≡_};
 ghost use Rattle.qlt.specs.Field.{lists};
 ghost use Rattle.qlt.specs.Operation.{call, verdict};
 use checks::inner::check_reach;
-use checks::inner::field_checks;
+use checks::inner::check_shape;
+use checks::inner::check_values;
 use numbers::Checked;
 
-// The checks 1 to 8, in 01's order.
+// 1 to 3; 4 to 7; 8.
 pub fn verdict(
     targets: &[i32],
     lows: &[u32],
@@ -21,8 +22,21 @@ pub fn verdict(
 ) -> Checked
     ensures { λ r. ⌜ r ≡ verdict (call (lists (now (targets .entry)) (now (lows .entry)) (now (highs .entry)) (now («safe_lows» .entry)) (now («safe_highs» .entry)) (now (weights .entry)) (now (parents .entry))) total (now (masses .entry)) (now (scratch .entry))) ⌝ }
 {
-    let field = field_checks(
+    let shape = check_shape(
+        targets.len(),
+        parents.len(),
         masses.len(),
+        lows.len(),
+        highs.len(),
+        safe_lows.len(),
+        safe_highs.len(),
+        weights.len(),
+        scratch.len(),
+    );
+    if let Checked::Fail { number, place } = shape {
+        return Checked::Fail { number, place };
+    }
+    let values = check_values(
         targets,
         lows,
         highs,
@@ -30,9 +44,8 @@ pub fn verdict(
         safe_highs,
         weights,
         parents,
-        scratch.len(),
     );
-    if let Checked::Fail { number, place } = field {
+    if let Checked::Fail { number, place } = values {
         return Checked::Fail { number, place };
     }
     check_reach(safe_lows, safe_highs, total)

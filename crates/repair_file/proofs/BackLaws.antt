@@ -1,18 +1,17 @@
 -- The field in the bytes of a field that a file can hold is that field, and the file's verdict is Reconstruct's. Assumes nothing.
 use mathlib.Core.Path.{_≡_, refl, sym, _∙_, ap}
 use mathlib.Core.List.{List}
-use Prim.Native.Nat.{ℕ, _+_, _*_}
+use Prim.Native.Nat.{ℕ, _*_}
 use native.Mathlib.Omega.{arith}
 use lib.IntN.{pos}
-use lib.ListN.{length, take, drop}
-use lib.Seq.{take-at}
+use lib.ListN.{length}
 use Rattle.numbers.specs.declared.Checked.the-variants.{Pass}
-use Rattle.numbers.specs.Lists.{listTo, written}
+use Rattle.numbers.specs.Lists.{listTo}
 use Rattle.numbers.specs.Checks.{both}
 use Rattle.numbers.proofs.CheckLaws.{both-pass}
 use Rattle.numbers.proofs.ListLaws.{length-listTo}
-use Rattle.columns.specs.Columns.{width}
-use Rattle.qlt.specs.Field.{Lists, cells, nodes}
+use Rattle.numbers.proofs.PartLaws.{front-written}
+use Rattle.qlt.specs.Field.{Lists, cells, nodes, scratchPerNode}
 use Rattle.qlt.specs.Operation.{call, verdict}
 use Rattle.formats.specs.FieldFile.{fieldBytes}
 use Rattle.formats.specs.ReadField.{Room, Sizes, fileCells, fileNodes, fileTotal}
@@ -20,11 +19,6 @@ use Rattle.formats.specs.Stored.{Storable, FieldBack}
 use Rattle.formats.proofs.BackLaws.{field-back}
 use Rattle.repair_file.specs.RepairFile.{largest, fileLists, fileCall, fileVerdict}
 use Rattle.repair_file.proofs.FileLaws.{fronts-read}
-
--- the front of a list into which a whole list was written
-front-of {ℓ} : {X : Type ℓ} (l xs : List X) (n : ℕ) → length xs ≡ n → take n (written l 0 xs) ≡ xs
-unfolding written
-front-of l xs n e = take-at xs (drop (0 + length xs) l) n e
 
 module _ (f : Lists) (M : ℕ) (g : Storable f M) where
   -- the largest lists have room for it
@@ -63,13 +57,13 @@ module _ (f : Lists) (M : ℕ) (g : Storable f M) where
         back .leaves,
         same-cells,
         same-nodes,
-        front-of (largest .targets) (f .targets) (cells f) refl,
-        front-of (largest .lows) (f .lows) (cells f) (g .lows),
-        front-of (largest .highs) (f .highs) (cells f) (g .highs),
-        front-of (largest .safeLows) (f .safeLows) (cells f) (g .safeLows),
-        front-of (largest .safeHighs) (f .safeHighs) (cells f) (g .safeHighs),
-        front-of (largest .weights) (f .weights) (cells f) (g .weights),
-        front-of (largest .parents) (f .parents) (nodes f) refl,
+        front-written (largest .targets) (f .targets) (cells f) refl,
+        front-written (largest .lows) (f .lows) (cells f) (g .lows),
+        front-written (largest .highs) (f .highs) (cells f) (g .highs),
+        front-written (largest .safeLows) (f .safeLows) (cells f) (g .safeLows),
+        front-written (largest .safeHighs) (f .safeHighs) (cells f) (g .safeHighs),
+        front-written (largest .weights) (f .weights) (cells f) (g .weights),
+        front-written (largest .parents) (f .parents) (nodes f) refl,
       )
 
 pub stored-lists :
@@ -79,7 +73,7 @@ stored-lists f M g = (same-lists f M g, (same-cells f M g, (same-nodes f M g, sa
 
 pub stored-verdict :
     (f : Lists) (M : ℕ) → Storable f M
-    → fileVerdict (fieldBytes f M) ≡ verdict (call f M (listTo (cells f) (λ i. 0)) (listTo (width * nodes f) (λ i. pos 0)))
+    → fileVerdict (fieldBytes f M) ≡ verdict (call f M (listTo (cells f) (λ i. 0)) (listTo (scratchPerNode * nodes f) (λ i. pos 0)))
 unfolding fileVerdict
 stored-verdict f M g =
     ap (λ x. both x (both (verdict (fileCall (fieldBytes f M))) Pass)) (back f M g .passes)

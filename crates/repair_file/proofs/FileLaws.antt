@@ -7,7 +7,7 @@ use native.Mathlib.Nat.{sub-zero}
 use native.Mathlib.Omega.{arith}
 use lib.IntN.{ℤ, pos}
 use lib.ListN.{length, take, drop, take-append-drop}
-use lib.Seq.{take-at, length-take-le}
+use lib.Seq.{length-take-le}
 use borrow.Author.Tests.{le-leb}
 use Rattle.numbers.specs.declared.Checked.{Checked}
 use Rattle.numbers.specs.declared.Checked.the-variants.{Pass, Fail}
@@ -15,13 +15,12 @@ use Rattle.numbers.specs.Lists.{listTo, written}
 use Rattle.numbers.specs.Checks.{answered, after, both}
 use Rattle.numbers.proofs.CheckLaws.{both-first, both-pass, answered-accepted, answered-refused}
 use Rattle.numbers.proofs.ListLaws.{length-listTo}
-use Rattle.numbers.proofs.PartLaws.{put-back}
-use Rattle.columns.specs.Columns.{width}
+use Rattle.numbers.proofs.PartLaws.{put-back, front-written}
 use Rattle.qlt.specs.declared.Repair.{Repair}
 use Rattle.qlt.specs.declared.Reconstructed.{Reconstructed}
-use Rattle.qlt.specs.Field.{Lists, nodes, field}
+use Rattle.qlt.specs.Field.{Lists, nodes, scratchPerNode, field}
 use Rattle.qlt.specs.Masses.{treeMass, treeMasses}
-use Rattle.qlt.specs.Checks.{checkLists, shapeChecks}
+use Rattle.qlt.specs.Checks.{checkLists, checkShape}
 use Rattle.qlt.specs.Operation.{call, verdict, repair, tells, cleared, ReconstructContract}
 use Rattle.formats.specs.declared.FieldRead.{FieldRead}
 use Rattle.formats.specs.declared.FieldRead.the-variants as read
@@ -66,21 +65,20 @@ read-largest file s r =
 -- Reconstruct looks at masses by their length, and asks of scratch that it is long enough
 pub verdict-lengths :
     (f : Lists) (M : ℕ) (masses masses′ : List ℕ) (scratch scratch′ : List ℤ)
-    → length masses ≡ length masses′ → width * nodes f ≤ length scratch → width * nodes f ≤ length scratch′
+    → length masses ≡ length masses′ → scratchPerNode * nodes f ≤ length scratch → scratchPerNode * nodes f ≤ length scratch′
     → verdict (call f M masses scratch) ≡ verdict (call f M masses′ scratch′)
-unfolding verdict shapeChecks checkLists
+unfolding verdict checkShape checkLists
 verdict-lengths f M masses masses′ scratch scratch′ e h h′ = rw (e, le-leb _ _ h, le-leb _ _ h′)
 
 -- ---- the front of a list
 
-pub front-written {ℓ} : {X : Type ℓ} (l : List X) (n : ℕ) (f : ℕ → X) → take n (written l 0 (listTo n f)) ≡ listTo n f
-unfolding written
-front-written l n f = take-at (listTo n f) (drop (0 + length (listTo n f)) l) n (length-listTo n f)
+front {ℓ} : {X : Type ℓ} (l : List X) (n : ℕ) (f : ℕ → X) → take n (written l 0 (listTo n f)) ≡ listTo n f
+front l n f = front-written l (listTo n f) n (length-listTo n f)
 
 pub fronts-read : (file : List ℕ) (s : Lists) → fronts (fileCells file) (fileNodes file) (listsRead file s) ≡ fileLists file
 unfolding listsRead fileLists
 fronts-read file s =
-    rw (front-written (s .targets), front-written (s .lows), front-written (s .highs), front-written (s .safeLows), front-written (s .safeHighs), front-written (s .weights), front-written (s .parents))
+    rw (front (s .targets), front (s .lows), front (s .highs), front (s .safeLows), front (s .safeHighs), front (s .weights), front (s .parents))
 
 -- ---- sizes of what a file holds
 
@@ -119,8 +117,8 @@ unfolding treeMasses
 fronts-repaired n m M s masses part scratch scratch′ a r h p e =
     record {
       answers = e ∙ ap (beside n) (p .answers);
-      writes = back (verdict (frontCall n m M s masses scratch)) n masses part (treeMasses (field (fronts n m s)) M) (length-listTo _ _ ∙ length-take-le n (s .targets) h) (p .writes);
-      leaves = p .leaves;
+      writes = back (verdict (frontCall n m M s masses scratch)) n masses part (treeMasses (field (fronts n m s)) M) (length-listTo _ _ ∙ length-take-le n (s .targets) h) (p .leaves .writes);
+      leaves = p .leaves .clears;
     }
 
 -- ---- the whole contract
@@ -147,7 +145,7 @@ module _ (file : List ℕ) (s : Lists) (roomy : Roomy s) where
         answers = sym (ap (λ x. answered x (repairedOf file)) f);
         reads = reads-by p;
         writes = sym (ap (λ x. after x (written masses 0 (fileMasses file)) masses) f);
-        leaves = sym (ap (λ x. after x (cleared (width * fileNodes file) scratch) scratch) f);
+        leaves = sym (ap (λ x. after x (cleared (scratchPerNode * fileNodes file) scratch) scratch) f);
       }
 
   module _ {t : Lists} {n m M : ℕ} (p : ReadContract file s (read.Read n m M) t) where
@@ -161,11 +159,11 @@ module _ (file : List ℕ) (s : Lists) (roomy : Roomy s) where
       same-verdict : verdict (frontCall n m M t masses scratch) ≡ fileVerdict file
       same-verdict =
           let e = read-done p .1 in
-          let z : width * nodes (fileLists file) ≤ 6144 = omega (arith, length-nodes file, fit .head .nodes-few) in
+          let z : scratchPerNode * nodes (fileLists file) ≤ 6144 = omega (arith, length-nodes file, fit .head .nodes-few) in
           let l : length (take n masses) ≡ fileCells file = length-take-le n masses (omega (arith, e .0, fit .head .few)) ∙ e .0 in
           ap (λ f. verdict (call f M (take n masses) scratch)) same-lists
           ∙ ap (λ k. verdict (call (fileLists file) k (take n masses) scratch)) (e .1 .1 .0)
-          ∙ verdict-lengths (fileLists file) (fileTotal file) (take n masses) (listTo (fileCells file) (λ i. 0)) scratch (listTo (width * fileNodes file) (λ i. pos 0)) (l ∙ sym (length-listTo (fileCells file) (λ i. 0))) (omega arith) (omega (arith, length-nodes file, length-listTo (width * fileNodes file) (λ i. pos 0)))
+          ∙ verdict-lengths (fileLists file) (fileTotal file) (take n masses) (listTo (fileCells file) (λ i. 0)) scratch (listTo (scratchPerNode * fileNodes file) (λ i. pos 0)) (l ∙ sym (length-listTo (fileCells file) (λ i. 0))) (omega arith) (omega (arith, length-nodes file, length-listTo (scratchPerNode * fileNodes file) (λ i. pos 0)))
           ∙ sym (read-verdict (read-accepts file s .1 fit))
 
       pub file-read : (r : FileRepaired) (masses′ : List ℕ) (scratch′ : List ℤ) → RepairsFronts n m M t masses scratch r masses′ scratch′ → RepairsFile file s masses scratch r t masses′ scratch′
@@ -182,9 +180,9 @@ module _ (file : List ℕ) (s : Lists) (roomy : Roomy s) where
                 ∙ ap (λ k. after (fileVerdict file) (written masses 0 (treeMasses (field (fileLists file)) k)) masses) (e .1 .1 .0);
             leaves =
                 q .leaves
-                ∙ ap (λ v. after v (cleared (width * nodes (fronts n m t)) scratch) scratch) same-verdict
-                ∙ ap (λ f. after (fileVerdict file) (cleared (width * nodes f) scratch) scratch) same-lists
-                ∙ ap (λ k. after (fileVerdict file) (cleared (width * k) scratch) scratch) (length-nodes file);
+                ∙ ap (λ v. after v (cleared (scratchPerNode * nodes (fronts n m t)) scratch) scratch) same-verdict
+                ∙ ap (λ f. after (fileVerdict file) (cleared (scratchPerNode * nodes f) scratch) scratch) same-lists
+                ∙ ap (λ k. after (fileVerdict file) (cleared (scratchPerNode * k) scratch) scratch) (length-nodes file);
           }
 
 -- ---- from the contract alone
@@ -214,7 +212,7 @@ module _ {file : List ℕ} {s t : Lists} {masses masses′ : List ℕ} {scratch 
         repair = ap (λ (z : Repaired). z .repair) (e .1);
         some = omega (arith, c, f .some);
         few = omega (arith, c, f .few);
-        masses = rw (p .writes, e .0, c, masses-are file) (front-written masses (fileCells file) _);
+        masses = rw (p .writes, e .0, c, masses-are file) (front masses (fileCells file) _);
         targets = rw (p .reads, v, c) (ap (λ (z : Lists). z .targets) l);
       }
 

@@ -1,3 +1,4 @@
 -- The laws of reading and repairing a file; they stand over the definitions of specs/ alone.
 pub mod FileLaws
+pub mod VerdictLaws
 pub mod BackLaws

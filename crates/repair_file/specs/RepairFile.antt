@@ -1,19 +1,19 @@
 -- From a field file's bytes to the repaired masses: reading, then Reconstruct. Assumes nothing.
 use mathlib.Core.Path.{_≡_}
-use mathlib.Core.List.{List, [], _∷_}
+use mathlib.Core.List.{List, [], _∷_, _++_}
 use Prim.Native.Nat.{ℕ, _*_}
 use lib.IntN.{ℤ, pos}
 use lib.ListN.{take}
 use Rattle.numbers.specs.declared.Checked.{Checked}
 use Rattle.numbers.specs.Lists.{listTo, written}
-use Rattle.numbers.specs.Checks.{Answered, accepted, refused, answered, after, first}
-use Rattle.columns.specs.Columns.{width}
+use Rattle.numbers.specs.Checks.{Answered, accepted, refused, answered, after, first, Rule}
 use Rattle.qlt.specs.declared.Repair.{Repair}
-use Rattle.qlt.specs.Field.{Lists, lists, nodes, field}
+use Rattle.qlt.specs.Field.{Lists, lists, nodes, scratchPerNode, field}
 use Rattle.qlt.specs.Masses.{treeMasses}
-use Rattle.qlt.specs.Operation.{Call, call, verdict, repair, cleared}
-use Rattle.formats.specs.FieldFile.{wordTarget, cellWord, parentWord}
-use Rattle.formats.specs.ReadField.{fileCells, fileNodes, fileTotal, readVerdict, listsRead}
+use Rattle.qlt.specs.Operation.{Call, call, verdict, rules, Fits, repair, cleared}
+use Rattle.blocks.specs.Words.{wordSigned}
+use Rattle.formats.specs.FieldFile.{cellWord, parentWord}
+use Rattle.formats.specs.ReadField.{fileCells, fileNodes, fileTotal, readVerdict, readRules, ReadFits, listsRead}
 use Rattle.repair_file.specs.declared.FileRepaired.{FileRepaired}
 use Rattle.repair_file.specs.declared.FileRepaired.the-variants.{Done, Refused}
 
@@ -26,7 +26,7 @@ largest =
 unfoldable pub fileLists : List ℕ → Lists
 fileLists file =
     lists
-    (listTo (fileCells file) (λ i. wordTarget (cellWord file 0 i)))
+    (listTo (fileCells file) (λ i. wordSigned (cellWord file 0 i)))
     (listTo (fileCells file) (cellWord file 1))
     (listTo (fileCells file) (cellWord file 2))
     (listTo (fileCells file) (cellWord file 3))
@@ -36,11 +36,22 @@ fileLists file =
 
 -- Reconstruct's call for it: masses for each cell, and as much scratch as is asked for
 abbrev pub fileCall : List ℕ → Call
-fileCall file = call (fileLists file) (fileTotal file) (listTo (fileCells file) (λ i. 0)) (listTo (width * fileNodes file) (λ i. pos 0))
+fileCall file = call (fileLists file) (fileTotal file) (listTo (fileCells file) (λ i. 0)) (listTo (scratchPerNode * fileNodes file) (λ i. pos 0))
 
 -- reading, then Reconstruct, each in its order
+abbrev pub fileChecks : List ℕ → List Checked
+fileChecks file = readVerdict file largest ∷ verdict (fileCall file) ∷ []
+
 unfoldable pub fileVerdict : List ℕ → Checked
-fileVerdict file = first (readVerdict file largest ∷ verdict (fileCall file) ∷ [])
+fileVerdict file = first (fileChecks file)
+
+-- what they mean
+abbrev pub fileRules : List ℕ → List Rule
+fileRules file = readRules file largest ++ rules (fileCall file)
+
+pub record FileFits (file : List ℕ) : Type 0 where
+  pub read : ReadFits file largest
+  pub repair : Fits (fileCall file)
 
 -- what an accepted file gives
 unfoldable pub fileRepair : List ℕ → Repair
@@ -66,7 +77,7 @@ pub record RepairsFile (file : List ℕ) (s : Lists) (masses : List ℕ) (scratc
   pub answers : fileTells answer ≡ answered (fileVerdict file) (repairedOf file)
   pub reads : t ≡ after (readVerdict file largest) (listsRead file s) s
   pub writes : masses′ ≡ after (fileVerdict file) (written masses 0 (fileMasses file)) masses
-  pub leaves : scratch′ ≡ after (fileVerdict file) (cleared (width * fileNodes file) scratch) scratch
+  pub leaves : scratch′ ≡ after (fileVerdict file) (cleared (scratchPerNode * fileNodes file) scratch) scratch
 
 -- ---- Reconstruct on the front of longer lists
 
@@ -87,4 +98,4 @@ beside n (refused number place) = refused number place
 pub record RepairsFronts (n m M : ℕ) (s : Lists) (masses : List ℕ) (scratch : List ℤ) (answer : FileRepaired) (masses′ : List ℕ) (scratch′ : List ℤ) : Type 0 where
   pub answers : fileTells answer ≡ beside n (answered (verdict (frontCall n m M s masses scratch)) (repair (fronts n m s) M))
   pub writes : masses′ ≡ after (verdict (frontCall n m M s masses scratch)) (written masses 0 (treeMasses (field (fronts n m s)) M)) masses
-  pub leaves : scratch′ ≡ after (verdict (frontCall n m M s masses scratch)) (cleared (width * nodes (fronts n m s)) scratch) scratch
+  pub leaves : scratch′ ≡ after (verdict (frontCall n m M s masses scratch)) (cleared (scratchPerNode * nodes (fronts n m s)) scratch) scratch

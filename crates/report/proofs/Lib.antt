@@ -1,2 +1,2 @@
--- The laws of the report; they stand over the definitions of specs/ alone.
+-- The laws of the report's text; they stand over the definitions of specs/ alone.
 pub mod ReportLaws

@@ -5,9 +5,9 @@ ghost use lib.ListN.{length};
 ghost use Rattle.text.specs.Text.{Put};
 ghost use Rattle.report.specs.Report.{reportText};
 use listing::inner::put_listing;
-use listing::inner::put_refusal;
 use repair_file::FileRepaired;
 use repair_file::inner::repair_file;
+use text::inner::put_refusal;
 
 // The same over lent lists.
 fn put_report_with(

@@ -1,24 +1,17 @@
 // The operation Report: the text that the program prints for a file. Public: `report`; the work below it is in a module of its own, for
 // this crate alone. Relies on `repair_file`, `listing`, `text`, `formats`, `qlt` and `numbers`.
 ghost use Rattle.report.specs.Report.{ReportContract};
+use text::Reported;
+use text::inner::put_front;
 
 mod content;
 
-// The text's length, the text being written; or the refusal of a list that is too short for it.
-pub enum Reported {
-    Text(usize),
-    Refused { number: u32, place: u32 },
-}
-
-// Writes the text for a field file to the front of `out`: the listing, or the one line of a refusal of the file. `out` needs 16384 bytes.
+// Writes the text for a field file to the front of `out`: the listing, or the one line of a refusal of the file. `out` needs 16384 bytes;
+// a shorter one is refused with 3 and left as it was.
 pub fn report(file: &[u8], out: &mut [u8]) -> Reported
     ensures { λ r. ⌜ ReportContract (now (file .entry)) (now (out .entry)) r (now (out .exit)) ⌝ }
 {
-    if out.len() < 16384 {
-        return Reported::Refused {
-            number: 3,
-            place: 0,
-        };
-    }
-    Reported::Text(content::put_report(file, out))
+    let mut text = [0u8; 16384];
+    let n = content::put_report(file, &mut text);
+    put_front(out, &text[..n], 16384)
 }

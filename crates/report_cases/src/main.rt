@@ -4,10 +4,10 @@
 // many shapes in all three outcomes, and files that are refused, by Reconstruct or in reading. Of a file at most 18,433 bytes are read, one
 // more than the largest has. The report is written to a buffer of 16,384 bytes: the listing, or the line of the file's refusal. The last
 // line is a refusal of the operation itself: file 0 once more, with a buffer that is a byte too short.
-// Relies on `report`, which it tests, `cases`, and the kit's `io`, `os` and `libc`.
+// Relies on `report`, which it tests, `text`, `cases`, and the kit's `io`, `os` and `libc`.
 use cases::output::show_refusal;
 use libc::STDOUT_FILENO;
-use report::Reported;
+use text::Reported;
 
 // The last digit of a number, as a byte of text.
 fn last_digit(x: u64) -> u8 {

@@ -10,13 +10,13 @@ use crate::load::fill_with;
 use crate::load::load;
 use crate::load::load_targets;
 use crate::load::take_out;
+use columns::FIRST;
+use columns::HIGH;
+use columns::LOW;
+use columns::MASS;
+use columns::WEIGHT;
 use columns::WIDTH;
 use numbers::inner::stored_index;
-use walks::inner::FIRST;
-use walks::inner::HIGH;
-use walks::inner::LOW;
-use walks::inner::MASS;
-use walks::inner::WEIGHT;
 use walks::inner::put;
 
 // The columns of all nodes before the splits: sums over their cells, no first child yet, and the root's mass.

@@ -14,9 +14,10 @@ ghost use Rattle.columns.specs.Columns.{width, MASS, col, num, InRow, Stored, L
 ghost use Rattle.qlt.specs.Tree.{Valid};
 ghost use Rattle.qlt.specs.Operation.{cleared};
 ghost use Rattle.passes.specs.Gather.{Gathering, Loaded, Targets};
+use columns::MASS;
 use numbers::inner::magnitude;
 use numbers::inner::minus;
-use walks::inner::MASS;
+use numbers::inner::narrow;
 use walks::inner::get;
 use walks::inner::get_signed;
 use walks::inner::put;
@@ -33,13 +34,6 @@ fn broad(x: u32) -> u64
     ensures { λ r. ⌜ (r ≡ x) × (r < 2 ^ 32) ⌝ }
 {
     x as u64
-}
-
-fn narrow(x: u64) -> u32
-    requires { ⌜ x < 2 ^ 32 ⌝ }
-    ensures { λ r. ⌜ r ≡ x ⌝ }
-{
-    x as u32
 }
 
 // Sets column k to 0 in the rows from n on.
@@ -152,10 +146,10 @@ pub fn take_out(s: &[i64], masses: &mut [u32])
     requires { ⌜ ((c : ℕ) → c < length (now masses) → num MASS (now s) c < 2 ^ 32) ⌝ }
     ensures { λ _. ⌜ now (masses .exit) ≡ listTo (length (now (masses .entry))) (λ c. num MASS (now (s .entry)) c) ⌝ }
 {
-    let mut c: usize = 0;
-    while c < masses.len() {
-        masses[c] = narrow(get(s, MASS, c));
-        c += 1;
+    let mut u: usize = 0;
+    while u < masses.len() {
+        masses[u] = narrow(get(s, MASS, u));
+        u += 1;
     }
 }
 

@@ -1,13 +1,18 @@
--- What a check may count on once those before it have passed. Assumes nothing.
+-- The sums that Split's checks look at, and what a check may count on once those before it have passed. Assumes nothing.
 use mathlib.Core.List.{List}
 use Prim.Native.Nat.{ℕ, _<_}
-use lib.IntN.{pos}
+use lib.IntN.{ℤ, pos}
 use lib.Signed.{_≤ℤ_}
-use lib.IntN.{ℤ}
 use lib.ListN.{length}
+use Rattle.numbers.specs.Sums.{ℕ-adds, sumTo}
 use Rattle.numbers.specs.Lists.{atℤ}
+use Rattle.numbers.specs.Signed.{over}
 use Rattle.numbers.specs.Checks.{maxTotal}
 use Rattle.caas.specs.Operation.{sumℤ}
+
+-- the sum of what a list's numbers have above 0
+abbrev pub sumOver : List ℤ → ℕ
+sumOver xs = sumTo ℕ-adds (length xs) (λ u. over (atℤ xs u))
 
 -- no number of a list is below 0
 pub record NonNegative (xs : List ℤ) : Type 0 where

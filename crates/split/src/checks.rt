@@ -2,14 +2,16 @@
 ghost use mathlib.Core.Path.{_≡_};
 ghost use mathlib.Core.Bool.{_&&_};
 ghost use Prim.Native.Nat.{_≤_, _<_};
+ghost use lib.Dec.{leb};
 ghost use lib.IntN.{pos};
 ghost use lib.Signed.{leZ};
 ghost use lib.ListN.{length};
 ghost use Rattle.numbers.specs.Lists.{atℤ};
-ghost use Rattle.numbers.specs.Checks.{everyFrom, maxTotal};
-ghost use Rattle.split.specs.Sums.{NonNegative, Summable};
-ghost use Rattle.caas.specs.Operation.{sumℤ, orderedAt, checkLengths, checkOrder, checkHighs, checkWeights, checkReach, shapeChecks, valueChecks, splitVerdict, splitCall};
+ghost use Rattle.numbers.specs.Checks.{first, everyFrom, maxTotal};
+ghost use Rattle.split.specs.Sums.{sumOver, NonNegative, Summable};
+ghost use Rattle.caas.specs.Operation.{orderedAt, checkLengths, checkOrder, checkHighs, checkWeights, checkReach, splitShapeChecks, splitValueChecks, splitVerdict, splitCall};
 use numbers::Checked;
+use numbers::inner::and;
 use numbers::inner::at_most;
 use numbers::inner::check_count;
 use numbers::inner::check_length;
@@ -17,6 +19,7 @@ use numbers::inner::fail_at;
 use numbers::inner::signed;
 use numbers::inner::sum_above;
 use numbers::inner::then;
+use numbers::inner::unless;
 
 // 3: lists of other lengths.
 fn check_lengths(n: usize, lows: usize, highs: usize, weights: usize, masses: usize) -> Checked
@@ -34,7 +37,7 @@ fn check_lengths(n: usize, lows: usize, highs: usize, weights: usize, masses: us
 fn is_ordered(low: i64, high: i64) -> bool
     ensures { λ r. ⌜ r ≡ leZ (pos 0) low && leZ low high ⌝ }
 {
-    0 <= low && low <= high
+    and(0 <= low, low <= high)
 }
 
 fn ordered_at(lows: &[i64], highs: &[i64], u: usize) -> bool
@@ -80,10 +83,9 @@ fn all_nonnegative(xs: &[i64]) -> bool
     true
 }
 
-// Numbers of which none is below 0 add up to at most 2147483647.
+// What a list's numbers have above 0 adds up to at most 2147483647.
 fn sum_fits(xs: &[i64]) -> bool
-    requires { ⌜ NonNegative (now xs) ⌝ }
-    ensures { λ r. ⌜ r ≡ leZ (sumℤ (length (now (xs .entry))) (now (xs .entry))) (pos maxTotal) ⌝ }
+    ensures { λ r. ⌜ r ≡ leb (sumOver (now (xs .entry))) maxTotal ⌝ }
 {
     sum_above(xs) <= 2147483647
 }
@@ -93,32 +95,14 @@ fn check_highs(highs: &[i64]) -> Checked
     requires { ⌜ NonNegative (now highs) ⌝ }
     ensures { λ r. ⌜ r ≡ checkHighs (length (now (highs .entry))) (now (highs .entry)) ⌝ }
 {
-    if sum_fits(highs) {
-        return Checked::Pass;
-    }
-    Checked::Fail {
-        number: 6,
-        place: 0,
-    }
+    unless(sum_fits(highs), 6, 0)
 }
 
 // 7: a weight below 0, or weights adding to over that.
 fn check_weights(weights: &[i64]) -> Checked
     ensures { λ r. ⌜ r ≡ checkWeights (length (now (weights .entry))) (now (weights .entry)) ⌝ }
 {
-    if !all_nonnegative(weights) {
-        return Checked::Fail {
-            number: 7,
-            place: 0,
-        };
-    }
-    if !sum_fits(weights) {
-        return Checked::Fail {
-            number: 7,
-            place: 0,
-        };
-    }
-    Checked::Pass
+    unless(and(all_nonnegative(weights), sum_fits(weights)), 7, 0)
 }
 
 // 8: the total outside the sums of lows and highs, where none is below 0 and the sums fit.
@@ -127,26 +111,14 @@ fn check_reach(lows: &[i64], highs: &[i64], total: i64) -> Checked
     requires { ⌜ length (now highs) ≡ length (now lows) ⌝ }
     ensures { λ r. ⌜ r ≡ checkReach (length (now (lows .entry))) (now (lows .entry)) (now (highs .entry)) total ⌝ }
 {
-    let low = sum_above(lows);
-    let high = sum_above(highs);
-    if !at_most(signed(low), total) {
-        return Checked::Fail {
-            number: 8,
-            place: 0,
-        };
-    }
-    if !at_most(total, signed(high)) {
-        return Checked::Fail {
-            number: 8,
-            place: 0,
-        };
-    }
-    Checked::Pass
+    let low = signed(sum_above(lows));
+    let high = signed(sum_above(highs));
+    unless(and(at_most(low, total), at_most(total, high)), 8, 0)
 }
 
 // 1 and 3: of lengths alone.
 fn shape_checks(n: usize, lows: usize, highs: usize, weights: usize, masses: usize) -> Checked
-    ensures { λ r. ⌜ r ≡ shapeChecks n lows highs weights masses ⌝ }
+    ensures { λ r. ⌜ r ≡ first (splitShapeChecks n lows highs weights masses) ⌝ }
 {
     then(
         check_count(n),
@@ -157,7 +129,7 @@ fn shape_checks(n: usize, lows: usize, highs: usize, weights: usize, masses: usi
 // 5 to 8.
 fn value_checks(lows: &[i64], highs: &[i64], weights: &[i64], total: i64) -> Checked
     requires { ⌜ (length (now lows) ≤ 512) × (length (now highs) ≡ length (now lows)) × (length (now weights) ≡ length (now lows)) ⌝ }
-    ensures { λ r. ⌜ r ≡ valueChecks (length (now (lows .entry))) (now (lows .entry)) (now (highs .entry)) (now (weights .entry)) total ⌝ }
+    ensures { λ r. ⌜ r ≡ first (splitValueChecks (length (now (lows .entry))) (now (lows .entry)) (now (highs .entry)) (now (weights .entry)) total) ⌝ }
 {
     let order = check_order(lows, highs);
     if let Checked::Fail { number, place } = order {

@@ -12,17 +12,17 @@ use Rattle.numbers.specs.Sums.{sumTo}
 use Rattle.numbers.specs.Lists.{atℤ, listTo}
 use Rattle.numbers.specs.Signed.{minℤ, maxℤ}
 use Rattle.numbers.specs.Quota.{quota}
-use Rattle.numbers.specs.Checks.{eachFrom, firstFrom, everyFrom, checkCount}
+use Rattle.numbers.specs.Checks.{eachFrom, firstFrom, everyFrom, checkCount, checkScale}
 use Rattle.caas.specs.Split.{clip, clipped, deficit, capacity, portion, firstShare, remainder, left, secondShare, shares, result}
 use Rattle.caas.specs.Operation as caas
 use Rattle.caas.specs.Operation.{checkLengths, checkHighs, checkWeights, splitVerdict, splitMasses}
 use Rattle.columns.specs.Columns.{width}
 use Rattle.qlt.specs.Tree.{leads, childOf, anyChild, nodeSum, parentOk, nodeOk, massFrom, massAt}
 use Rattle.qlt.specs.Field.{Lists, cells, nodes, field, outcome, number, lowIn, highIn, changeOf}
-use Rattle.qlt.specs.Masses.{groupOf, treeMass, treeMasses}
-use Rattle.qlt.specs.Checks.{checkNodes, checkLists, checkTree, boundsOrdered, checkOrder, checkSum, checkReach, shapeChecks, valueChecks}
+use Rattle.qlt.specs.Masses.{massBetween, groupOf, treeMass, treeMasses}
+use Rattle.qlt.specs.Checks.{checkNodes, checkLists, checkTree, boundsOrdered, checkOrder, checkSum, checkReach, checkShape, checkValues}
 use Rattle.qlt.specs.Operation.{Call, call, verdict, repair}
-use Rattle.conversion.specs.Import.{checkScale, checkFinite, checkTarget, checkBound, importVerdict, importUnits, carried}
+use Rattle.conversion.specs.Import.{checkFinite, checkTarget, checkBound, importVerdict, importUnits, carried}
 use Rattle.blocks.specs.Words.{Words}
 use Rattle.formats.specs.FieldFile.{fieldBytes}
 use Rattle.formats.specs.Stored.{Storable}
@@ -100,13 +100,13 @@ storable =
     }
 
 e1-verdict : verdict (callOf e1Lists 16) ≡ Pass
-unfolding sumTo listTo eachFrom firstFrom checkCount childOf anyChild parentOk nodeOk checkNodes checkLists checkTree boundsOrdered checkOrder checkSum checkReach shapeChecks valueChecks verdict
+unfolding sumTo listTo eachFrom firstFrom checkCount childOf anyChild parentOk nodeOk checkNodes checkLists checkTree boundsOrdered checkOrder checkSum checkReach checkShape checkValues verdict
 e1-verdict = refl
 
 e1-listing :
     listing (cells e1Lists) (repair e1Lists 16) (treeMasses (field e1Lists) 16) (e1Lists .targets)
     ≡ ascii "outcome 0 cells 4 total 16 change 4\n0 0 2\n1 7 -2\n2 4 0\n3 5 0\n"
-unfolding sumTo listTo minℤ maxℤ quota clip clipped deficit capacity portion firstShare remainder left secondShare shares result leads childOf nodeSum massFrom massAt outcome number lowIn highIn changeOf groupOf treeMass treeMasses repair digitsOf signedNumber headLine cellLine cellLines listing
+unfolding sumTo listTo minℤ maxℤ quota clip clipped deficit capacity portion firstShare remainder left secondShare shares result leads childOf nodeSum massFrom massAt outcome number lowIn highIn changeOf massBetween groupOf treeMass treeMasses repair digitsOf signedNumber headLine cellLine cellLines listing
 e1-listing = refl
 
 pub e1-text : reportText (fieldBytes e1Lists 16) ≡ ascii "outcome 0 cells 4 total 16 change 4\n0 0 2\n1 7 -2\n2 4 0\n3 5 0\n"
@@ -115,9 +115,9 @@ e1-text = text-of e1Lists 16 storable e1-verdict ∙ e1-listing
 -- ---- the rows after it
 rest : map (λ r. gives (r .asked)) others ≡ map (λ r. r .wanted) others
 unfolding sumTo listTo minℤ maxℤ quota eachFrom firstFrom everyFrom checkCount clip clipped deficit capacity portion firstShare remainder left
-    secondShare shares result checkLengths caas.checkOrder checkHighs checkWeights caas.checkReach caas.shapeChecks caas.valueChecks splitVerdict
-    splitMasses leads childOf anyChild nodeSum parentOk nodeOk massFrom massAt outcome number lowIn highIn changeOf groupOf treeMass treeMasses
-    checkNodes checkLists checkTree boundsOrdered checkOrder checkSum checkReach shapeChecks valueChecks verdict repair checkScale checkFinite
+    secondShare shares result checkLengths caas.checkOrder checkHighs checkWeights caas.checkReach splitVerdict
+    splitMasses leads childOf anyChild nodeSum parentOk nodeOk massFrom massAt outcome number lowIn highIn changeOf massBetween groupOf treeMass treeMasses
+    checkNodes checkLists checkTree boundsOrdered checkOrder checkSum checkReach checkShape checkValues verdict repair checkScale checkFinite
     checkTarget checkBound importVerdict importUnits carried ofBits
 rest = refl
 

@@ -1,2 +1,3 @@
--- The laws of text, in one file; they stand over the definitions of specs/ alone.
+-- The laws of text and of its contract; they stand over the definitions of specs/ alone.
 pub mod TextLaws
+pub mod ReportsLaws

@@ -17,8 +17,8 @@ use mir.Syntax.{w64}
 use mir.Val.{SFits, toZ, ofZ}
 use mir.ValLaws.{toZ-ofZ}
 use Rattle.numbers.specs.Lists.{at, written}
-use Rattle.numbers.proofs.PartLaws.{written-empty, sets-written, written-on}
-use Rattle.text.specs.Text.{digitsOf, digits, number, signedNumber, valueFrom, Decimal, Put}
+use Rattle.numbers.proofs.PartLaws.{written-empty, front-written, sets-written, written-on}
+use Rattle.text.specs.Text.{digitsOf, digits, number, signedNumber, valueFrom, Digits, Decimal, Put}
 
 -- ---- text in a list of bytes
 
@@ -31,10 +31,14 @@ then {d} {d′} {d″} {a} {b} {from} {end} {last} h p q =
     }
 
 pub none : (d : List ℕ) (from : ℕ) → Put d d from from []
-none d from = record { next = omega arith; bytes = written-empty d from }
+none d from = record { next = omega arith; bytes = written-empty d from [] refl }
 
 pub byte : (d : List ℕ) (from v : ℕ) → from < length d → Put d (set d from v) from (from + 1) (v ∷ [])
 byte d from v h = record { next = omega arith; bytes = sets-written (v ∷ []) d from (omega arith) }
+
+-- a text that was put at the front is what stands there
+pub front : {d d′ text : List ℕ} {n : ℕ} → Put d d′ 0 n text → take n d′ ≡ text
+front {d} {text = text} {n} p = ap (take n) (p .bytes) ∙ front-written d text n (omega arith)
 
 -- a word copied into the part that begins at `from`
 pub copied : (d word part : List ℕ) (from n : ℕ) → from + length word ≤ length d → n ≡ length word → part ≡ take (length word) word ++ drop (length word) (take (length d - from) (drop from d))
@@ -80,11 +84,8 @@ few k (suc j) n z h = go (λ l. few (k - 1) j (n / 10) (tenth-some k n l h) (ten
         let m : 10 ≤ n = omega arith in
         rw (le-ltb n 10 m) (omega (arith, ih m, tenth-some k n m h, length-append (digitsOf j (n / 10)) ((48 + n % 10) ∷ [])))
 
-pub digits-few : (k n : ℕ) → 0 < k → n < 10 ^ k → length (digits n) ≤ k
-digits-few k n z h = few k 20 n z h
-
 pub number-few : (k n after : ℕ) → 0 < k → n < 10 ^ k → length (number n after) ≤ k + 1
-number-few k n after z h = omega (arith, digits-few k n z h, length-append (digits n) (after ∷ []))
+number-few k n after z h = omega (arith, few k 20 n z h, length-append (digits n) (after ∷ []))
 
 pub signed-few : (k : ℕ) (z : ℤ) (after : ℕ) → 0 < k → natAbs z < 10 ^ k → length (signedNumber z after) ≤ k + 2
 unfolding signedNumber
@@ -92,9 +93,6 @@ signed-few k (pos n) after h l = omega (arith, number-few k n after h l)
 signed-few k (negsuc n) after h l = omega (arith, number-few k (suc n) after h l)
 
 -- ---- what they mean
-
-abbrev Digits : List ℕ → Type 0
-Digits ds = (i : ℕ) → i < length ds → (48 ≤ at ds i) × (at ds i ≤ 57)
 
 value-last : (ds : List ℕ) (x d : ℕ) → valueFrom x (ds ++ (d ∷ [])) ≡ 10 * valueFrom x ds + (d - 48)
 unfolding valueFrom
@@ -140,7 +138,7 @@ decimal-last n ds h p =
     }
 
 -- the digits of a number that has at most k are its decimal form
-pub decimal-of : (k n : ℕ) → 0 < k → n < 10 ^ k → Decimal n (digitsOf k n)
+decimal-of : (k n : ℕ) → 0 < k → n < 10 ^ k → Decimal n (digitsOf k n)
 unfolding digitsOf
 decimal-of zero n z h = absurd (omega arith)
 decimal-of (suc k) n z h = go (λ l. decimal-of k (n / 10) (rw sub-one at (tenth-some (suc k) n l h)) (rw sub-one at (tenth-fits (suc k) n l h))) (decLt n 10)

@@ -1,4 +1,4 @@
--- Numbers as decimal text, what a decimal text means, and text put into a list of bytes. Assumes nothing.
+-- Numbers as decimal text, what a decimal text means, the line of a refusal, and text put into a list of bytes. Assumes nothing.
 use mathlib.Core.Path.{_≡_}
 use mathlib.Core.Bool.{cond}
 use mathlib.Core.List.{List, [], _∷_, _++_}
@@ -7,6 +7,7 @@ use lib.Dec.{ltb}
 use lib.IntN.{ℤ, pos, negsuc}
 use lib.ListN.{length}
 use Rattle.numbers.specs.Lists.{at, written}
+use Rattle.text.specs.Ascii.{ascii}
 
 -- ---- numbers
 
@@ -32,6 +33,19 @@ signedNumber (negsuc n) after = 45 ∷ number (suc n) after
 abbrev pub named : List ℕ → ℕ → ℕ → List ℕ
 named word n after = word ++ number n after
 
+-- ---- lines
+
+-- the byte between the pieces of a line, and the byte at its end
+abbrev pub space : ℕ
+space = 32
+
+abbrev pub newline : ℕ
+newline = 10
+
+-- what is printed of a refusal ('Examples' of 01): `refused`, number, place
+unfoldable pub refusalLine : ℕ → ℕ → List ℕ
+refusalLine refusal place = named (ascii "refused ") refusal space ++ number place newline
+
 -- ---- what digits mean
 
 -- the value of a list of digits
@@ -39,10 +53,14 @@ unfoldable pub valueFrom : ℕ → List ℕ → ℕ
 valueFrom x [] = x
 valueFrom x (d ∷ ds) = valueFrom (10 * x + (d - 48)) ds
 
+-- every byte is a digit
+abbrev pub Digits : List ℕ → Type 0
+Digits ds = (i : ℕ) → i < length ds → (48 ≤ at ds i) × (at ds i ≤ 57)
+
 -- ds is n in decimal: some digits, with n as their value, and a leading zero only if it is the only digit
 pub record Decimal (n : ℕ) (ds : List ℕ) : Type 0 where
   pub some : 0 < length ds
-  pub digit : (i : ℕ) → i < length ds → (48 ≤ at ds i) × (at ds i ≤ 57)
+  pub digit : Digits ds
   pub value : valueFrom 0 ds ≡ n
   pub shortest : at ds 0 ≡ 48 → length ds ≡ 1
 

@@ -1,8 +1,11 @@
-// Each function puts one piece of text at `at` and returns the place after it.
-ghost use mathlib.Core.Path.{_≡_};
+// Pieces of text, each put at a place, with the place after it as the result; and a whole text at the front of a lent list.
 ghost use Prim.Native.Nat.{_+_, _≤_, _<_, _^_};
 ghost use lib.ListN.{length};
-ghost use Rattle.text.specs.Text.{Put, digitsOf, number, signedNumber, named};
+ghost use Rattle.text.specs.Text.{Put, digitsOf, number, signedNumber, named, refusalLine};
+ghost use Rattle.text.specs.Reports.{Reports};
+use crate::Reported;
+use numbers::Checked;
+use numbers::inner::check_long;
 use numbers::inner::magnitude;
 
 // Puts the bytes of a word.
@@ -15,7 +18,7 @@ pub fn put_bytes(out: &mut [u8], at: usize, word: &[u8]) -> usize
 }
 
 // Puts x in decimal; k is the most digits that x may have.
-pub fn put_digits(out: &mut [u8], at: usize, x: u64, k: usize) -> usize
+fn put_digits(out: &mut [u8], at: usize, x: u64, k: usize) -> usize
     requires { ⌜ (x < 10 ^ k) × (0 < k) × (at + k ≤ length (now out)) ⌝ }
     ensures { λ r. ⌜ Put (now (out .entry)) (now (out .exit)) at r (digitsOf k x) × (r ≤ at + k) ⌝ }
 {
@@ -58,4 +61,25 @@ pub fn put_named(out: &mut [u8], at: usize, word: &[u8], x: u64, after: u8) -> u
 {
     let end = put_bytes(out, at, word);
     put_number(out, end, x, after)
+}
+
+// The line of a refusal, from the start of a list.
+pub fn put_refusal(out: &mut [u8], number: u32, place: u32) -> usize
+    requires { ⌜ 64 ≤ length (now out) ⌝ }
+    ensures { λ r. ⌜ Put (now (out .entry)) (now (out .exit)) 0 r (refusalLine number place) × (r ≤ 64) ⌝ }
+{
+    let a = put_named(out, 0, b"refused ", number as u64, b' ');
+    put_number(out, a, place as u64, b'\n')
+}
+
+// Writes a whole text to the front of a lent list, which has to have the room.
+pub fn put_front(out: &mut [u8], text: &[u8], room: usize) -> Reported
+    requires { ⌜ length (now text) ≤ room ⌝ }
+    ensures { λ r. ⌜ Reports (now (text .entry)) room (now (out .entry)) r (now (out .exit)) ⌝ }
+{
+    let verdict = check_long(out.len(), room);
+    match verdict {
+        Checked::Pass => Reported::Text(put_bytes(out, 0, text)),
+        Checked::Fail { number, place } => Reported::Refused { number, place },
+    }
 }

@@ -6,22 +6,13 @@ ghost use lib.IntN.{pos};
 ghost use Rattle.caas.specs.Split.{clip, room, moved};
 ghost use Rattle.columns.specs.Columns.{MASS, LOW, HIGH, col, num, InRow, Stored};
 ghost use Rattle.columns.specs.Walks.{roomIn, either, Clipping, Clipped, Sharing, Shared, Splitting, SplitDone};
+use columns::FIRST;
+use columns::HIGH;
+use columns::LOW;
+use columns::MASS;
+use columns::NEXT;
+use columns::WEIGHT;
 use columns::WIDTH;
-
-// The columns of a row: a node's target, later its mass; its low and high in force;
-// its weight; its first child; its next sibling.
-
-pub const MASS: usize = 0;
-
-pub const LOW: usize = 1;
-
-pub const HIGH: usize = 2;
-
-pub const WEIGHT: usize = 3;
-
-pub const FIRST: usize = 4;
-
-pub const NEXT: usize = 5;
 
 // What node u has in column k, or 0 if that is below 0.
 pub fn get(s: &[i64], k: usize, u: usize) -> u64

@@ -1,10 +1,35 @@
--- `blocks::payload` meets its contract: the file has a block exactly past both tests, and the part cut is its payload.
-use mathlib.Core.Path.{refl}
+-- `blocks::payload` meets its contract: the test is whether the file has the block, and the part cut is its payload, where it lies.
+use mathlib.Core.Path.{_≡_, refl, sym, _∙_}
+use mathlib.Core.Bool.{true}
+use Prim.Native.Nat.{_*_, _≤_, _<_}
 use native.Mathlib.Omega.{arith}
-use Rattle.blocks.proofs.BlockLaws.{hasBlock-zero, hasBlock-past, payload-none, payload-part}
+use lib.ListN.{length}
+use Rattle.blocks.specs.Blocks.{hasBlock}
+use Rattle.blocks.proofs.BlockLaws.{hasBlock-is, hasBlock-means, payload-none, payload-part}
 use borrow.Author.Needs.{needs}
 use Rattle.blocks.proofs.payload.Statement.{statement}
 use Rattle.blocks.proofs.payload.Tie as tie
+
+tested : (c : tie.After-and) → c .and .result ≡ hasBlock (c .before .before .args .file .now) (c .before .before .args .number)
+tested c = c .and .ensures ∙ hasBlock-is (c .before .before .args .file .now) (c .before .before .args .number)
+
+inside : (c : tie.After-and) → c .and .result ≡ true → (0 < c .before .before .args .number) × (512 * c .before .before .args .number ≤ length (c .before .before .args .file .now))
+inside c e = hasBlock-means _ _ .0 (sym (tested c) ∙ e)
+
+and-requires : tie.Need-and-requires
+and-requires c κs = search needs
+
+sub-at : tie.Need-sub-at
+sub-at c = omega (arith, inside (c .before) (c .if1 .taken))
+
+mul-at : tie.Need-mul-at
+mul-at c = omega (arith, inside (c .before) (c .if1 .taken))
+
+add-at : tie.Need-add-at
+add-at c = omega (arith, inside (c .before) (c .if1 .taken))
+
+add-end : tie.Need-add-end
+add-end c = omega (arith, inside (c .before) (c .if1 .taken))
 
 sub-result : tie.Need-sub-result
 sub-result c = search needs
@@ -13,12 +38,12 @@ part-result-start : tie.Need-part-result-start
 part-result-start c = search needs
 
 part-result-end : tie.Need-part-result-end
-part-result-end c = search needs
+part-result-end c = omega (arith, inside (c .before) (c .if1 .taken))
 
 returns : tie.Need-returns
 returns c =
-    let a = c .before .before .args in
-    record { gives = payload-none (a .file .now) (a .number) (hasBlock-zero (a .file .now) (a .number) (c .before .if1 .taken)) }
+    let a = c .before .before .before .before .args in
+    payload-part (a .file .now) (a .number) (a .file .ptr) _ _ (sym (tested (c .before .before)) ∙ c .before .if1 .taken) refl refl
 
 sub-result-2 : tie.Need-sub-result-2
 sub-result-2 c = search needs
@@ -31,39 +56,18 @@ part-result-end-2 c = search needs
 
 returns-2 : tie.Need-returns-2
 returns-2 c =
-    let a = c .before .before .before .args in
-    record { gives = payload-none (a .file .now) (a .number) (hasBlock-past (a .file .now) (a .number) (c .before .if2 .taken)) }
-
-sub-at : tie.Need-sub-at
-sub-at c = search needs
-
-mul-at : tie.Need-mul-at
-mul-at c = search needs
-
-add-at : tie.Need-add-at
-add-at c = search needs
-
-add-end : tie.Need-add-end
-add-end c = search needs
-
-sub-result-3 : tie.Need-sub-result-3
-sub-result-3 c = search needs
-
-part-result-start-3 : tie.Need-part-result-start-3
-part-result-start-3 c = search needs
-
-part-result-end-3 : tie.Need-part-result-end-3
-part-result-end-3 c = search needs
-
-returns-3 : tie.Need-returns-3
-returns-3 c =
-    let a = c .before .before .before .args in
-    record { gives = payload-part (a .file .now) (a .number) _ _ (omega (arith, c .before .before .if1 .left)) (omega (arith, c .before .if2 .left)) refl refl }
+    let a = c .before .before .before .before .args in
+    payload-none (a .file .now) (a .number) (a .file .ptr) _ (sym (tested (c .before .before)) ∙ c .before .if1 .left) (omega arith)
 
 pub payload-spec : {M : Type 1} → statement M
 payload-spec =
     tie.close
     (tie.spec
+    and-requires
+    sub-at
+    mul-at
+    add-at
+    add-end
     sub-result
     part-result-start
     part-result-end
@@ -71,12 +75,4 @@ payload-spec =
     sub-result-2
     part-result-start-2
     part-result-end-2
-    returns-2
-    sub-at
-    mul-at
-    add-at
-    add-end
-    sub-result-3
-    part-result-start-3
-    part-result-end-3
-    returns-3)
+    returns-2)

@@ -6,9 +6,8 @@ use lib.IntN.{pos}
 use lib.Ieee.{Float, binary64, mul, ofInt}
 use borrow.Author.Needs.{needs}
 use borrow.Author.Tests.{le-leb, lt-leb}
-use Rattle.numbers.specs.Checks.{answered, maxTotal}
+use Rattle.numbers.specs.Checks.{answered, maxTotal, checkScale}
 use Rattle.conversion.specs.declared.Exported.the-variants.{Double, Refused}
-use Rattle.conversion.specs.Import.{checkScale}
 use Rattle.conversion.specs.Export.{checkMass, exportVerdict, exportDouble, exportTells}
 use Rattle.conversion.proofs.Powers.{product-is}
 use Rattle.conversion.proofs.ExportLaws.{export-meets}

@@ -5,13 +5,13 @@ use native.Mathlib.Omega.{arith}
 use mir.Syntax.{w32}
 use mir.ValLaws.{toZ-ofZ}
 use borrow.Author.Needs.{needs}
+use borrow.Author.Tests.{le-leb, lt-leb}
 use Rattle.conversion.specs.Import.{ImportContract}
-use Rattle.conversion.specs.Forms.{targetField, lowField, highField, importForm}
+use Rattle.conversion.specs.Forms.{targetField, lowField, highField, importFields, importForm}
 use Rattle.conversion.specs.declared.CellDoubles.{CellDoubles}
 use Rattle.conversion.specs.declared.Imported.{Imported}
 use Rattle.conversion.specs.declared.TargetField.{TargetField}
 use Rattle.conversion.specs.declared.BoundField.{BoundField}
-use Rattle.conversion.proofs.FormLaws.{at-scale, past-scale, bad-target, bad-low, bad-high, bad-safe-low, bad-safe-high, all-in}
 use Rattle.conversion.proofs.ImportLaws.{import-meets}
 use Rattle.doubles.proofs.import.Statement.{statement}
 use Rattle.doubles.proofs.import.Tie as tie
@@ -47,7 +47,8 @@ g4 : (c : tie.After-known-told4) → lowField (s4 c .args .scale) (s4 c .args .c
 g4 c = sym (c .before .before .before .low-field2 .ensures) ∙ c .before .safe-low .given .1
 
 returns : tie.Need-returns
-returns c = meets (c .before .args .scale) (c .before .args .cell) (past-scale (c .before .args .scale) (c .before .args .cell) (c .if1 .taken))
+unfolding importForm
+returns c = let z = c .before .args in meets (z .scale) (z .cell) (rw (lt-leb (z .scale) 30 (c .if1 .taken)))
 
 target-field-requires : tie.Need-target-field-requires
 target-field-requires c κs = search needs
@@ -109,16 +110,20 @@ refused-requires-4 c κs = search needs
 refused-requires-5 : tie.Need-refused-requires-5
 refused-requires-5 c κs = search needs
 
+-- at each later return the form is rewritten by what the scale's test and the fields gave
 returns-2 : tie.Need-returns-2
+unfolding importForm importFields
 returns-2 c =
     let d = c .before .before .before .before in
     let z = s4 d .args in
     let k4 = d .before .before .before .before in
     let k3 = k4 .before .before .before .before in
     let k2 = k3 .before .before .before .before in
-    meets (z .scale) (z .cell) (at-scale (z .scale) (z .cell) (omega arith) ∙ all-in (z .scale) (z .cell) (toZ-ofZ w32 (k2 .before .target .given .0 .0) (record { sfits = k2 .known-told .given .0 .1 })) (g1 k2) (g2 k3) (g3 k4) (g4 d) (sym (c .before .before .before .high-field2 .ensures) ∙ c .before .safe-high .given .1))
+    meets (z .scale) (z .cell)
+    (rw (le-leb (z .scale) 30 (omega arith), g1 k2, g2 k3, g3 k4, g4 d, sym (c .before .before .before .high-field2 .ensures) ∙ c .before .safe-high .given .1, toZ-ofZ w32 (k2 .before .target .given .0 .0) (record { sfits = k2 .known-told .given .0 .1 })))
 
 returns-3 : tie.Need-returns-3
+unfolding importForm importFields
 returns-3 e =
     let c = e .before in
     let d = c .before .before .before .before in
@@ -126,37 +131,46 @@ returns-3 e =
     let k4 = d .before .before .before .before in
     let k3 = k4 .before .before .before .before in
     let k2 = k3 .before .before .before .before in
-    meets (z .scale) (z .cell) (at-scale (z .scale) (z .cell) (omega (arith, k2 .before .before .before .before .if1 .left)) ∙ bad-safe-high (z .scale) (z .cell) (g1 k2) (g2 k3) (g3 k4) (g4 d) (sym (c .before .before .before .high-field2 .ensures) ∙ c .before .number .given .1) ∙ sym (e .refused .ensures))
+    meets (z .scale) (z .cell)
+    (rw (le-leb (z .scale) 30 (omega (arith, k2 .before .before .before .before .if1 .left)), g1 k2, g2 k3, g3 k4, g4 d, sym (c .before .before .before .high-field2 .ensures) ∙ c .before .number .given .1) (sym (e .refused .ensures)))
 
 returns-4 : tie.Need-returns-4
+unfolding importForm importFields
 returns-4 e =
     let c = e .before in
     let d = c .before .before .before .before in
     let z = s3 d .args in
     let k3 = d .before .before .before .before in
     let k2 = k3 .before .before .before .before in
-    meets (z .scale) (z .cell) (at-scale (z .scale) (z .cell) (omega (arith, k2 .before .before .before .before .if1 .left)) ∙ bad-safe-low (z .scale) (z .cell) (g1 k2) (g2 k3) (g3 d) (sym (c .before .before .before .low-field2 .ensures) ∙ c .before .number2 .given .1) ∙ sym (e .refused2 .ensures))
+    meets (z .scale) (z .cell)
+    (rw (le-leb (z .scale) 30 (omega (arith, k2 .before .before .before .before .if1 .left)), g1 k2, g2 k3, g3 d, sym (c .before .before .before .low-field2 .ensures) ∙ c .before .number2 .given .1) (sym (e .refused2 .ensures)))
 
 returns-5 : tie.Need-returns-5
+unfolding importForm importFields
 returns-5 e =
     let c = e .before in
     let d = c .before .before .before .before in
     let z = s2 d .args in
     let k2 = d .before .before .before .before in
-    meets (z .scale) (z .cell) (at-scale (z .scale) (z .cell) (omega (arith, k2 .before .before .before .before .if1 .left)) ∙ bad-high (z .scale) (z .cell) (g1 k2) (g2 d) (sym (c .before .before .before .high-field .ensures) ∙ c .before .number3 .given .1) ∙ sym (e .refused3 .ensures))
+    meets (z .scale) (z .cell)
+    (rw (le-leb (z .scale) 30 (omega (arith, k2 .before .before .before .before .if1 .left)), g1 k2, g2 d, sym (c .before .before .before .high-field .ensures) ∙ c .before .number3 .given .1) (sym (e .refused3 .ensures)))
 
 returns-6 : tie.Need-returns-6
+unfolding importForm importFields
 returns-6 e =
     let c = e .before in
     let d = c .before .before .before .before in
     let z = s1 d .args in
-    meets (z .scale) (z .cell) (at-scale (z .scale) (z .cell) (omega (arith, d .before .before .before .before .if1 .left)) ∙ bad-low (z .scale) (z .cell) (g1 d) (sym (c .before .before .before .low-field .ensures) ∙ c .before .number4 .given .1) ∙ sym (e .refused4 .ensures))
+    meets (z .scale) (z .cell)
+    (rw (le-leb (z .scale) 30 (omega (arith, d .before .before .before .before .if1 .left)), g1 d, sym (c .before .before .before .low-field .ensures) ∙ c .before .number4 .given .1) (sym (e .refused4 .ensures)))
 
 returns-7 : tie.Need-returns-7
+unfolding importForm importFields
 returns-7 e =
     let c = e .before in
     let z = c .before .before .before .before .before .args in
-    meets (z .scale) (z .cell) (at-scale (z .scale) (z .cell) (omega (arith, c .before .before .before .before .if1 .left)) ∙ bad-target (z .scale) (z .cell) (sym (c .before .before .before .target-field .ensures) ∙ c .before .number5 .given .1) ∙ sym (e .refused5 .ensures))
+    meets (z .scale) (z .cell)
+    (rw (le-leb (z .scale) 30 (omega (arith, c .before .before .before .before .if1 .left)), sym (c .before .before .before .target-field .ensures) ∙ c .before .number5 .given .1) (sym (e .refused5 .ensures)))
 
 pub import-spec : {M : Type 1} → statement M
 import-spec =

@@ -1,5 +1,5 @@
 -- `legzhuro::main` keeps to the bounds of its lists: the text that it prints fits into the list that it is in.
-use Rattle.report.proofs.ReportLaws.{text-fits}
+use Rattle.text.proofs.ReportsLaws.{text-fits}
 use borrow.Author.Needs.{needs}
 use Rattle.legzhuro.proofs.main.Statement.{statement}
 use Rattle.legzhuro.proofs.main.Tie as tie

@@ -71,7 +71,7 @@ returns-2 : tie.Need-returns-2
 returns-2 c =
     let s = c .before .before .before .before .before .before .before .before .before .before .before .before .before .before .before .before .before .before .before .before .before .before .before .before in
     let put = c .before .before .put-repair .ensures in
-    step-done (given s) (s .args .answer .now) (shaped (c .before .before .before .before .before .before .before .before .before .before .before .before .before)) (promised (c .before .before .before .before .before .before .before .before .before .before)) (c .before .before .before .before .before .stepped .given .1) (put .0) (put .1)
+    step-done (given s) (s .args .answer .now) (shaped (c .before .before .before .before .before .before .before .before .before .before .before .before .before)) _ (promised (c .before .before .before .before .before .before .before .before .before .before)) (c .before .before .before .before .before .stepped .given .1) (put .0) (put .1)
 
 same-length-4 : tie.Need-same-length-4
 same-length-4 c = search needs
@@ -82,7 +82,7 @@ same-length-5 c = search needs
 returns-3 : tie.Need-returns-3
 returns-3 c =
     let s = c .before .before .before .before .before .before .before .before .before .before .before .before .before .before .before .before .before .before .before .before .before in
-    step-refused (given s) (s .args .answer .now) (shaped (c .before .before .before .before .before .before .before .before .before .before)) (promised (c .before .before .before .before .before .before .before)) (c .before .before .stepped2 .given .1) (c .refusal2 .ensures)
+    step-refused (given s) (s .args .answer .now) (shaped (c .before .before .before .before .before .before .before .before .before .before)) _ (promised (c .before .before .before .before .before .before .before)) (c .before .before .stepped2 .given .1) (c .refusal2 .ensures)
 
 pub legzhuro-step-spec : {M : Type 1} → statement M
 legzhuro-step-spec =

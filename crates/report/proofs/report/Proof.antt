@@ -1,22 +1,41 @@
--- `report::report` meets its contract: a list that is too short is refused, and another has the text put into it.
-use Rattle.report.proofs.ReportLaws.{report-short, report-long}
+-- `report::report` meets its contract: the text that stands at the front of the local list is handed on.
+use mathlib.Core.Path.{sym}
+use native.Mathlib.Omega.{arith}
+use lib.Seq.{length-take-le}
+use Rattle.text.proofs.ReportsLaws.{report-front}
 use borrow.Author.Needs.{needs}
 use Rattle.report.proofs.report.Statement.{statement}
 use Rattle.report.proofs.report.Tie as tie
 
-returns : tie.Need-returns
-returns c = report-short (c .before .before .before .args .file .now) (c .before .before .before .args .out .now) (c .if1 .taken)
+slice-aggregate-put-report : tie.Need-slice-aggregate-put-report
+slice-aggregate-put-report c = search needs
 
 put-report-requires : tie.Need-put-report-requires
-put-report-requires c κs = c .before .if1 .left
+put-report-requires c κs = search needs
+
+array-share-prefix-text : tie.Need-array-share-prefix-text
+array-share-prefix-text c = search needs
+
+slice-aggregate-put-front : tie.Need-slice-aggregate-put-front
+slice-aggregate-put-front c = sym (length-take-le _ _ (array-share-prefix-text (c .before)))
+
+put-front-requires : tie.Need-put-front-requires
+put-front-requires c κs = omega (arith, slice-aggregate-put-front c, c .before .before .before .put-report .ensures .1)
 
 same-length : tie.Need-same-length
 same-length c = search needs
 
-returns-2 : tie.Need-returns-2
-returns-2 c =
-    let p = c .before .before .put-report in
-    report-long (c .before .before .before .before .before .before .before .args .file .now) (c .before .before .before .before .before .before .before .args .out .now) _ _ (c .before .before .before .before .if1 .left) (p .kept .1 .0) (p .ensures .0) (p .ensures .1)
+returns : tie.Need-returns
+returns c = report-front (c .before .before .before .before .before .before .put-report .ensures .0) (c .before .before .put-front .ensures)
 
 pub report-spec : {M : Type 1} → statement M
-report-spec = tie.close (tie.spec returns put-report-requires same-length returns-2)
+report-spec =
+    tie.close
+    (tie.spec
+    slice-aggregate-put-report
+    put-report-requires
+    array-share-prefix-text
+    slice-aggregate-put-front
+    put-front-requires
+    same-length
+    returns)

@@ -1,8 +1,6 @@
 -- `report_cases::print_report` is safe: the text fits in the buffer.
-use mathlib.Core.Path.{ap, sym}
-use lib.Seq.{length-take-le}
+use Rattle.text.proofs.ReportsLaws.{text-fits}
 use borrow.Author.Needs.{needs}
-use Rattle.report.specs.Report.{reportTells}
 use Rattle.report_cases.proofs.print_report.Statement.{statement}
 use Rattle.report_cases.proofs.print_report.Tie as tie
 
@@ -13,11 +11,10 @@ enum-known-k : tie.Need-enum-known-k
 enum-known-k c = search needs
 
 slice-reshare-prefix-write-all : tie.Need-slice-reshare-prefix-write-all
-unfolding reportTells
-slice-reshare-prefix-write-all c = c .before .before .before .before .before .report .ensures .fits _ (ap reportTells (c .before .k .given .1))
+slice-reshare-prefix-write-all c = text-fits (rw (c .before .k .given .1) at (c .before .before .before .before .before .report .ensures)) .0
 
 slice-aggregate-write-all : tie.Need-slice-aggregate-write-all
-slice-aggregate-write-all c = sym (length-take-le _ _ (slice-reshare-prefix-write-all (c .before)))
+slice-aggregate-write-all c = text-fits (rw (c .before .before .k .given .1) at (c .before .before .before .before .before .before .report .ensures)) .1
 
 write-all-requires : tie.Need-write-all-requires
 write-all-requires c κs = search needs

@@ -7,6 +7,7 @@ use native.Mathlib.Omega.{arith}
 use lib.ListN.{length}
 use Rattle.numbers.specs.Lists.{written}
 use Rattle.blocks.specs.Blocks.{blockBytes, fileBytes}
+use Rattle.blocks.proofs.TableLaws.{list-fits}
 use Rattle.qlt.specs.declared.Repair.{Repair}
 use Rattle.formats.specs.WriteAnswer.{massBlock, answerWords}
 use Rattle.formats.proofs.WriteLaws.{answer-start, answer-next, answer-end}
@@ -25,14 +26,14 @@ abbrev μ-loop : tie.MeasureT-loop
 put-head-requires : tie.Need-put-head-requires Inv-loop μ-loop
 put-head-requires c κs = omega arith
 
-add-count : tie.Need-add-count Inv-loop μ-loop
-add-count c = omega arith
+table-blocks-requires : tie.Need-table-blocks-requires Inv-loop μ-loop
+table-blocks-requires c κs = (list-fits, omega arith)
 
 loop-holds : tie.Need-loop-holds Inv-loop μ-loop
 loop-holds c = (omega arith, refl, λ d r e. e)
 
-put-mass-block-requires : tie.Need-put-mass-block-requires Inv-loop μ-loop
-put-mass-block-requires c κs = omega arith
+put-list-block-requires : tie.Need-put-list-block-requires Inv-loop μ-loop
+put-list-block-requires c κs = omega (arith, c .before .before .before .table-blocks .ensures)
 
 add-k : tie.Need-add-k Inv-loop μ-loop
 add-k c = omega arith
@@ -41,14 +42,15 @@ loop-less : tie.Need-loop-less Inv-loop μ-loop
 loop-less c = omega arith
 
 loop-again : tie.Need-loop-again Inv-loop μ-loop
-loop-again c = let l = c .before .before .before .before .before .loop in
-    let a = c .before .before .before .before .before .before .before .before .before .before .before .before .args in
-    let p = c .before .before .put-mass-block in (
+loop-again c =
+    let l = c .before .before .before .before .before .loop in
+    let a = c .before .before .before .before .before .before .before .before .before .before .before .before .before .args in
+    let p = c .before .before .put-list-block in (
       omega arith,
       p .kept .0 ∙ l .inv .1,
       λ d r e.
           p .ensures
-          ∙ ap (λ x. written x (512 + 512 * l .k) (blockBytes (l .k + 2) (massBlock (a .n) (a .masses .now) (l .k)))) (l .inv .2 d r e)
+          ∙ ap (λ x. written x (512 * (2 + l .k - 1)) (blockBytes (2 + l .k) (massBlock (a .n) (a .masses .now) (l .k)))) (l .inv .2 d r e)
           ∙ answer-next d (a .n) r (a .masses .now) (l .k),
     )
 
@@ -56,10 +58,11 @@ same-length : tie.Need-same-length Inv-loop μ-loop
 same-length c = omega arith
 
 returns : tie.Need-returns Inv-loop μ-loop
-returns c = let l = c .before .loop in
-    let a = c .before .before .before .before .before .before .before .before .args in
-    l .inv .2 (a .buffer .now) (a .repair) (c .before .before .before .before .put-head .ensures ∙ answer-start (a .buffer .now) (a .n) (a .repair) (a .masses .now))
-    ∙ ap (written (a .buffer .now) 0) (answer-end (a .n) (a .repair) (a .masses .now) (l .k) (le-antisymm (l .inv .0) (c .loop-test .left)))
+returns c =
+    let l = c .before .loop in
+    let a = c .before .before .before .before .before .before .before .before .before .args in
+    l .inv .2 (a .buffer .now) (a .repair) (c .before .before .before .before .before .put-head .ensures ∙ answer-start (a .buffer .now) (a .n) (a .repair) (a .masses .now))
+    ∙ ap (written (a .buffer .now) 0) (answer-end (a .n) (a .repair) (a .masses .now) (l .k) (le-antisymm (l .inv .0) (c .loop-test .left) ∙ c .before .before .table-blocks .ensures))
 
 pub put-answer-spec : {M : Type 1} → statement M
 put-answer-spec =
@@ -68,9 +71,9 @@ put-answer-spec =
     Inv-loop
     μ-loop
     put-head-requires
-    add-count
+    table-blocks-requires
     loop-holds
-    put-mass-block-requires
+    put-list-block-requires
     add-k
     loop-less
     loop-again

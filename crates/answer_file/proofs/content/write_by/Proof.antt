@@ -2,10 +2,9 @@
 -- the file is written.
 use mathlib.Core.Path.{_≡_, sym, _∙_, ap}
 use Prim.Native.Nat.{_*_}
-use native.Mathlib.Omega.{arith}
 use Rattle.numbers.specs.declared.Checked.the-variants.{Pass}
 use Rattle.numbers.specs.Lists.{written}
-use Rattle.numbers.specs.Checks.{answered, after}
+use Rattle.numbers.specs.Checks.{accepted, answered, after}
 use Rattle.formats.specs.WriteAnswer.{answerBlocks, answerBytes, WriteCall, writeCall, writeVerdict, WriteFits, writeTells}
 use Rattle.formats.proofs.WriteLaws.{write-accepts}
 use borrow.Author.Needs.{needs}
@@ -27,7 +26,8 @@ enum-known-verdict c = search needs
 
 returns : tie.Need-returns
 unfolding writeTells
-returns c = let w = call (c .before .before .before .before .before) in
+returns c =
+    let w = call (c .before .before .before .before .before) in
     let e = sym (c .before .verdict .given .1) ∙ c .before .before .before .before .before .pre in
     record {
       answers = ap (λ v. answered v (512 * answerBlocks (w .cells))) e;
@@ -38,28 +38,24 @@ enum-told : tie.Need-enum-told
 enum-told c = search needs
 
 put-answer-requires : tie.Need-put-answer-requires
-put-answer-requires c κs = let f = fits (c .before) in
+put-answer-requires c κs =
+    let f = fits (c .before) in
     (f .few, f .masses, f .space)
 
-add-t11 : tie.Need-add-t11
-add-t11 c = omega (arith, fits (c .before .before .before .before) .few)
-
-add-t13 : tie.Need-add-t13
-add-t13 c = omega (arith, fits (c .before .before .before .before) .few)
-
-mul-t14 : tie.Need-mul-t14
-mul-t14 c = omega (arith, fits (c .before .before .before .before) .few)
+file-length-requires : tie.Need-file-length-requires
+file-length-requires c κs = fits (c .before .before .before .before) .few
 
 same-length : tie.Need-same-length
 same-length c = search needs
 
 returns-2 : tie.Need-returns-2
 unfolding writeTells
-returns-2 c = let w = call (c .before .before .before .before .before .before .before .before) in
-    let e = sym (passed (c .before .before .before .before)) in
+returns-2 c =
+    let w = call (c .before .before .before .before .before .before .before .before .before) in
+    let e = sym (passed (c .before .before .before .before .before)) in
     record {
-      answers = ap (λ v. answered v (512 * answerBlocks (w .cells))) e;
-      writes = c .before .before .put-answer .ensures ∙ ap (λ v. after v (written (w .buffer) 0 (answerBytes (w .cells) (w .repair) (w .masses))) (w .buffer)) e;
+      answers = ap accepted (c .file-length .ensures) ∙ ap (λ v. answered v (512 * answerBlocks (w .cells))) e;
+      writes = c .before .before .before .put-answer .ensures ∙ ap (λ v. after v (written (w .buffer) 0 (answerBytes (w .cells) (w .repair) (w .masses))) (w .buffer)) e;
     }
 
 pub write-by-spec : {M : Type 1} → statement M
@@ -70,8 +66,6 @@ write-by-spec =
     returns
     enum-told
     put-answer-requires
-    add-t11
-    add-t13
-    mul-t14
+    file-length-requires
     same-length
     returns-2)

@@ -1,14 +1,13 @@
 -- `answer_file::verdicts::check_masses` meets its contract: the sum of the part that holds the first n masses is compared with the total.
-use mathlib.Core.Path.{_≡_, sym, _∙_, ap}
+use mathlib.Core.Path.{_∙_, ap}
 use Prim.Native.Nat.{_-_}
 use native.Mathlib.Nat.{sub-zero}
 use native.Mathlib.Omega.{arith}
+use lib.Dec.{eqb}
 use lib.ListN.{take}
-use Rattle.numbers.specs.Sums.{ℕ-adds, sumTo}
-use Rattle.numbers.specs.Lists.{at}
+use Rattle.numbers.specs.Lists.{sum}
+use Rattle.numbers.specs.Checks.{unless}
 use Rattle.numbers.proofs.PartLaws.{length-part}
-use Rattle.qlt.specs.Checks.{sum}
-use borrow.Author.Tests.{eq-eqb, ne-eqb}
 use Rattle.formats.specs.WriteAnswer.{checkMasses}
 use Rattle.formats.proofs.WriteLaws.{sum-part}
 use borrow.Author.Needs.{needs}
@@ -25,23 +24,22 @@ part-sum-of-end : tie.Need-part-sum-of-end
 part-sum-of-end c = search needs
 
 sum-of-requires : tie.Need-sum-of-requires
-sum-of-requires c κs = let a = c .before .before .args in
+sum-of-requires c κs =
+    let a = c .before .before .args in
     omega (arith, length-part (a .n - 0) 0 (a .masses .now) (omega (arith, c .before .before .pre)), c .before .before .pre)
 
--- the sum that the code has is that of the first n masses
-sum-is : (c : tie.After-sum-of) → c .sum-of .result ≡ sumTo ℕ-adds (c .before .before .before .args .n) (at (c .before .before .before .args .masses .now))
-sum-is c = let a = c .before .before .before .args in
-    c .sum-of .ensures .0 ∙ ap (λ k. sum (take k (a .masses .now))) (sub-zero (a .n)) ∙ sum-part (a .n) (a .masses .now) (c .before .before .before .pre .1)
+unless-requires : tie.Need-unless-requires
+unless-requires c κs = search needs
 
 returns : tie.Need-returns
 unfolding checkMasses
-returns c = rw (eq-eqb _ _ (sym (sum-is (c .before)) ∙ c .if1 .taken))
-
-returns-2 : tie.Need-returns-2
-unfolding checkMasses
-returns-2 c = rw (ne-eqb _ _ (λ e. c .if1 .left (sum-is (c .before) ∙ e)))
+returns c =
+    let a = c .before .before .before .before .args in
+    c .unless .ensures
+    ∙ ap (λ x. unless (eqb x (a .total)) 12 0)
+    (c .before .sum-of .ensures .0 ∙ ap (λ k. sum (take k (a .masses .now))) (sub-zero (a .n)) ∙ sum-part (a .n) (a .masses .now) (c .before .before .before .before .pre .1))
 
 pub check-masses-spec : {M : Type 1} → statement M
 check-masses-spec =
     tie.close
-    (tie.spec sub-sum-of part-sum-of-start part-sum-of-end sum-of-requires returns returns-2)
+    (tie.spec sub-sum-of part-sum-of-start part-sum-of-end sum-of-requires unless-requires returns)

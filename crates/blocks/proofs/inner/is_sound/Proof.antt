@@ -1,56 +1,51 @@
--- `blocks::inner::is_sound` meets its contract: the number and the check words are tested in turn.
-use mathlib.Core.Path.{sym, ap₂, _∙_}
+-- `blocks::inner::is_sound` meets its contract: the number and both check words are tested.
+use mathlib.Core.Path.{ap, ap₂, _∙_}
+use mathlib.Core.Bool.{_&&_}
 use lib.Dec.{eqb}
-use Rattle.blocks.specs.Blocks.{wordOf}
-use Rattle.blocks.proofs.BlockLaws.{unsound-number, unsound-first, sound-last}
+use Rattle.blocks.specs.Blocks.{wordOf, isSound}
 use borrow.Author.Needs.{needs}
 use Rattle.blocks.proofs.inner.is_sound.Statement.{statement}
 use Rattle.blocks.proofs.inner.is_sound.Tie as tie
 
-check-words-requires : tie.Need-check-words-requires
-check-words-requires c κs = search needs
-
 word-at-requires : tie.Need-word-at-requires
 word-at-requires c κs = search needs
 
-cast-if1 : tie.Need-cast-if1
-cast-if1 c = search needs
+cast-told : tie.Need-cast-told
+cast-told c = search needs
 
-returns : tie.Need-returns
-unfolding wordOf
-returns c =
-    let a = c .before .before .before .before .args in
-    unsound-number (a .block .now) (a .number) (λ e. c .if1 .taken (c .before .word-at .ensures ∙ e))
+check-words-requires : tie.Need-check-words-requires
+check-words-requires c κs = search needs
 
 word-at-requires-2 : tie.Need-word-at-requires-2
 word-at-requires-2 c κs = search needs
 
-returns-2 : tie.Need-returns-2
-unfolding wordOf
-returns-2 c =
-    let a = c .before .before .before .before .before .before .before .args in
-    unsound-first (a .block .now) (a .number) (sym (c .before .before .before .before .word-at .ensures) ∙ c .before .before .before .if1 .left)
-    (λ e. c .if2 .taken (c .before .before .word-at2 .ensures ∙ e ∙ sym (c .before .before .before .before .before .check-words .ensures .0)))
-
 word-at-requires-3 : tie.Need-word-at-requires-3
 word-at-requires-3 c κs = search needs
 
-returns-3 : tie.Need-returns-3
-unfolding wordOf
-returns-3 c =
-    let a = c .before .before .before .before .before .before .before .before .before .args in
-    ap₂ eqb (c .before .word-at3 .ensures) (c .before .before .before .before .before .before .before .check-words .ensures .1)
-    ∙ sound-last (a .block .now) (a .number) (sym (c .before .before .before .before .before .before .word-at .ensures) ∙ c .before .before .before .before .before .if1 .left) (sym (c .before .before .before .before .word-at2 .ensures) ∙ c .before .before .if2 .left ∙ c .before .before .before .before .before .before .before .check-words .ensures .0)
+and-requires : tie.Need-and-requires
+and-requires c κs = search needs
+
+and-requires-2 : tie.Need-and-requires-2
+and-requires-2 c κs = search needs
+
+returns : tie.Need-returns
+unfolding isSound wordOf
+returns c =
+    let number = c .before .before .before .before .before .before .before .before .before .args .number in
+    let k = c .before .before .before .before .before .before .check-words .ensures in
+    c .and2 .ensures
+    ∙ ap₂ _&&_ (ap (λ x. eqb x number) (c .before .before .before .before .before .before .before .word-at .ensures))
+    (c .before .and .ensures ∙ ap₂ _&&_ (ap₂ eqb (c .before .before .before .before .before .word-at2 .ensures) (k .0)) (ap₂ eqb (c .before .before .before .word-at3 .ensures) (k .1)))
 
 pub is-sound-spec : {M : Type 1} → statement M
 is-sound-spec =
     tie.close
     (tie.spec
-    check-words-requires
     word-at-requires
-    cast-if1
-    returns
+    cast-told
+    check-words-requires
     word-at-requires-2
-    returns-2
     word-at-requires-3
-    returns-3)
+    and-requires
+    and-requires-2
+    returns)

@@ -29,7 +29,7 @@ returns c =
     let a = c .before .before .before .before .before .args in
     let l = c .before .before .before .loop in
     let good : ℕ → Bool = λ j. eqb (payloadWord (a .file .now) (a .number) j) 0 in
-    sym (l .inv .1 ∙ every-here good (l .k) 125 (c .before .before .loop-test .taken) (ne-eqb _ _ (λ e. c .if1 .taken (c .before .payload-word .ensures ∙ e))))
+    sym (l .inv .1 ∙ every-here good (l .k) 125 (omega (arith, c .before .before .loop-test .taken)) (ne-eqb _ _ (λ e. c .if1 .taken (c .before .payload-word .ensures ∙ e))))
 
 add-k : tie.Need-add-k Inv-loop μ-loop
 add-k c = omega arith
@@ -42,14 +42,14 @@ loop-again c =
     let a = c .before .before .before .before .before .args in
     let l = c .before .before .before .loop in
     let good : ℕ → Bool = λ j. eqb (payloadWord (a .file .now) (a .number) j) 0 in
-    (omega arith, l .inv .1 ∙ every-on good (l .k) 125 (c .before .before .loop-test .taken) (eq-eqb _ _ (sym (c .before .payload-word .ensures) ∙ c .if1 .left)))
+    (omega arith, l .inv .1 ∙ every-on good (l .k) 125 (omega (arith, c .before .before .loop-test .taken)) (eq-eqb _ _ (sym (c .before .payload-word .ensures) ∙ c .if1 .left)))
 
 returns-2 : tie.Need-returns-2 Inv-loop μ-loop
 returns-2 c =
     let a = c .before .before .before .args in
     let l = c .before .loop in
     let good : ℕ → Bool = λ j. eqb (payloadWord (a .file .now) (a .number) j) 0 in
-    sym (l .inv .1 ∙ every-none good (l .k) 125 (c .loop-test .left))
+    sym (l .inv .1 ∙ every-none good (l .k) 125 (omega (arith, c .loop-test .left)))
 
 pub is-spare-spec : {M : Type 1} → statement M
 is-spare-spec =

@@ -1,20 +1,20 @@
--- `checks::inner::check_nodes` meets its contract: each test that is taken decides the verdict.
-use borrow.Author.Tests.{le-leb, lt-leb}
+-- `checks::inner::check_nodes` meets its contract: its test is the definition's.
+use mathlib.Core.Path.{_∙_, ap}
+use Rattle.numbers.specs.Checks.{unless}
 use Rattle.qlt.specs.Checks.{checkNodes}
+use borrow.Author.Needs.{needs}
 use Rattle.checks.proofs.inner.check_nodes.Statement.{statement}
 use Rattle.checks.proofs.inner.check_nodes.Tie as tie
 
+and-requires : tie.Need-and-requires
+and-requires c κs = search needs
+
+unless-requires : tie.Need-unless-requires
+unless-requires c κs = search needs
+
 returns : tie.Need-returns
 unfolding checkNodes
-returns c = simp (lt-leb _ _ (c .if1 .taken))
-
-returns-2 : tie.Need-returns-2
-unfolding checkNodes
-returns-2 c = simp (le-leb _ _ (c .before .if1 .left), lt-leb _ _ (c .if2 .taken))
-
-returns-3 : tie.Need-returns-3
-unfolding checkNodes
-returns-3 c = simp (le-leb _ _ (c .before .if1 .left), le-leb _ _ (c .if2 .left))
+returns c = c .unless .ensures ∙ ap (λ b. unless b 2 0) (c .before .and .ensures)
 
 pub check-nodes-spec : {M : Type 1} → statement M
-check-nodes-spec = tie.close (tie.spec returns returns-2 returns-3)
+check-nodes-spec = tie.close (tie.spec and-requires unless-requires returns)

@@ -29,10 +29,10 @@ arm c s e =
     high-product (z .k) (z .x) ∙ ap highFrom (sym (c .before .before .scaled .ensures) ∙ c .negative .given .1 ∙ ap (λ (b : Bool). Finite b (v .1 .0) (v .1 .1 .0)) e)
 
 returns : tie.Need-returns
-returns c = sym (arm (c .before .before .before .before) true (c .before .before .if1 .taken) ∙ rw (eq-eqb _ _ (c .before .if2 .taken), eq-eqb _ _ (c .if3 .taken)))
+returns c = sym (arm (c .before .before .before .before) true (c .before .before .if1 .taken) ∙ rw (eq-eqb _ _ (c .before .if2 .taken), eq-eqb _ 0 (c .if3 .taken)))
 
 returns-2 : tie.Need-returns-2
-returns-2 c = sym (arm (c .before .before .before .before) true (c .before .before .if1 .taken) ∙ rw (eq-eqb _ _ (c .before .if2 .taken), ne-eqb _ _ (c .if3 .left)))
+returns-2 c = sym (arm (c .before .before .before .before) true (c .before .before .if1 .taken) ∙ rw (eq-eqb _ _ (c .before .if2 .taken), ne-eqb _ 0 (c .if3 .left)))
 
 returns-3 : tie.Need-returns-3
 returns-3 c = sym (arm (c .before .before .before) true (c .before .if1 .taken) ∙ rw (ne-eqb _ _ (c .if2 .left)))

@@ -7,9 +7,9 @@ use mir.Syntax.{w32}
 use mir.ValLaws.{toZ-pos}
 use borrow.Author.Needs.{needs}
 use Rattle.conversion.specs.Forms.{inTarget}
-use Rattle.conversion.specs.Roundings.{signed}
+use Rattle.numbers.specs.Roundings.{signed}
 use Rattle.conversion.specs.declared.TargetField.{TargetField}
-use Rattle.conversion.proofs.FieldLaws.{target-in, target-out, minus-in, minus-out, minus-fits, minus-back, minus-signed}
+use Rattle.conversion.proofs.FieldLaws.{in-range, out-of-range, minus-fits, minus-back, minus-signed}
 use Rattle.doubles.proofs.fields.in_target.Statement.{statement}
 use Rattle.doubles.proofs.fields.in_target.Tie as tie
 
@@ -36,22 +36,22 @@ returns-2 c =
     let n = a .q - 1 in
     let l : n < 2 ^ 31 = omega (arith, c .before .if2 .left) in
     ap TargetField.Units (minus-back n l)
-    ∙ sym (ap (λ (s : Bool). inTarget (signed s (a .q))) (c .before .before .if1 .taken) ∙ ap inTarget (minus-signed (a .q) (c .before .if2 .left)) ∙ minus-in n l)
+    ∙ sym (ap (λ (s : Bool). inTarget (signed s (a .q))) (c .before .before .if1 .taken) ∙ ap inTarget (minus-signed (a .q) (c .before .if2 .left)) ∙ in-range n _ _ l)
 
 returns-3 : tie.Need-returns-3
 returns-3 c =
     let a = c .before .before .before .args in
-    sym (ap (λ (s : Bool). inTarget (signed s (a .q))) (c .before .before .if1 .taken) ∙ ap inTarget (minus-signed (a .q) (c .before .if2 .left)) ∙ minus-out (a .q - 1) (omega arith))
+    sym (ap (λ (s : Bool). inTarget (signed s (a .q))) (c .before .before .if1 .taken) ∙ ap inTarget (minus-signed (a .q) (c .before .if2 .left)) ∙ out-of-range (a .q - 1) _ _ (omega arith))
 
 returns-4 : tie.Need-returns-4
 returns-4 c =
     let a = c .before .before .args in
-    ap TargetField.Units (toZ-pos w32 (a .q) (c .if4 .taken)) ∙ sym (ap (λ (s : Bool). inTarget (signed s (a .q))) (c .before .if1 .left) ∙ target-in (a .q) (c .if4 .taken))
+    ap TargetField.Units (toZ-pos w32 (a .q) (c .if4 .taken)) ∙ sym (ap (λ (s : Bool). inTarget (signed s (a .q))) (c .before .if1 .left) ∙ in-range (a .q) _ _ (c .if4 .taken))
 
 returns-5 : tie.Need-returns-5
 returns-5 c =
     let a = c .before .before .args in
-    sym (ap (λ (s : Bool). inTarget (signed s (a .q))) (c .before .if1 .left) ∙ target-out (a .q) (c .if4 .left))
+    sym (ap (λ (s : Bool). inTarget (signed s (a .q))) (c .before .if1 .left) ∙ out-of-range (a .q) _ _ (c .if4 .left))
 
 pub in-target-spec : {M : Type 1} → statement M
 in-target-spec =

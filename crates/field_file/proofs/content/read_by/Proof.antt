@@ -1,5 +1,5 @@
 -- `field_file::content::read_by` meets its contract: a verdict that passes has the lists read, and one that fails leaves them.
-use Rattle.field_file.proofs.Laws.{after-pass, after-fail}
+use Rattle.numbers.proofs.CheckLaws.{after-pass, after-fail}
 use borrow.Author.Needs.{needs}
 use Rattle.field_file.proofs.content.read_by.Statement.{statement}
 use Rattle.field_file.proofs.content.read_by.Tie as tie
@@ -38,7 +38,7 @@ returns : tie.Need-returns
 returns c = after-pass _ (c .before .before .before .before .before .before .before .before .before .before .before .before .before .before .before .before .before .before .before .before .before .enum-told .given .1) (c .before .before .before .before .before .before .before .before .before .before .before .before .before .read-lists .ensures)
 
 returns-2 : tie.Need-returns-2
-returns-2 c = after-fail _ (c .enum-told2 .given .1)
+returns-2 c = after-fail _ _ (c .enum-told2 .given .1)
 
 pub read-by-spec : {M : Type 1} → statement M
 read-by-spec =

@@ -2,9 +2,12 @@
 use Prim.Native.Nat.{_*_, _≤_}
 use native.Mathlib.Omega.{arith}
 use lib.ListN.{length}
+use Rattle.blocks.specs.Tables.{HasTable}
+use Rattle.blocks.proofs.TableLaws.{list-fits}
 use Rattle.qlt.specs.Field.{Lists, lists}
-use Rattle.formats.specs.FieldFile.{fieldBlocks}
+use Rattle.formats.specs.FieldFile.{cellTable, fieldBlocks}
 use Rattle.formats.specs.ReadField.{Room}
+use Rattle.formats.proofs.ReadLaws.{cell-fits}
 use Rattle.field_file.proofs.Laws.{lists-are}
 use borrow.Author.Needs.{needs}
 use Rattle.field_file.proofs.content.read_lists.Statement.{statement}
@@ -20,6 +23,9 @@ long c = rw (c .before .payload-word .ensures, c .payload-word2 .ensures) (omega
 room : (c : tie.After-payload-word2) → Room (c .before .payload-word .result) (c .payload-word2 .result) (given (c .before .before .before .before .before .before .before .before .before))
 room c = rw (c .before .payload-word .ensures, c .payload-word2 .ensures) (c .before .before .before .before .before .before .before .before .before .pre .1)
 
+has-cells : (c : tie.After-payload-word2) → HasTable cellTable (c .before .before .before .before .before .before .before .before .before .args .file .now) 2 (c .before .payload-word .result)
+has-cells c = record { fits = cell-fits; first = omega arith; whole = omega (arith, long c) }
+
 payload-word-requires : tie.Need-payload-word-requires
 payload-word-requires c κs = omega (arith, c .before .before .before .before .before .before .before .pre .0 .whole)
 
@@ -32,26 +38,34 @@ payload-word-requires-2 c κs = omega (arith, c .before .before .before .before 
 cast-m : tie.Need-cast-m
 cast-m c = search needs
 
-read-targets-requires : tie.Need-read-targets-requires
-read-targets-requires c κs = let z = c .before in omega (arith, long z, room z .targets)
+read-signed-requires : tie.Need-read-signed-requires
+read-signed-requires c κs = let z = c .before in (has-cells z, omega arith, room z .targets)
 
 read-column-requires : tie.Need-read-column-requires
-read-column-requires c κs = let z = c .before .before .before .before in omega (arith, long z, room z .lows)
+read-column-requires c κs = let z = c .before .before .before .before in (has-cells z, omega arith, room z .lows)
 
 read-column-requires-2 : tie.Need-read-column-requires-2
-read-column-requires-2 c κs = let z = c .before .before .before .before .before .before .before .before in omega (arith, long z, room z .highs)
+read-column-requires-2 c κs = let z = c .before .before .before .before .before .before .before .before in (has-cells z, omega arith, room z .highs)
 
 read-column-requires-3 : tie.Need-read-column-requires-3
-read-column-requires-3 c κs = let z = c .before .before .before .before .before .before .before .before .before .before .before .before in omega (arith, long z, room z .safeLows)
+read-column-requires-3 c κs = let z = c .before .before .before .before .before .before .before .before .before .before .before .before in (has-cells z, omega arith, room z .safeLows)
 
 read-column-requires-4 : tie.Need-read-column-requires-4
-read-column-requires-4 c κs = let z = c .before .before .before .before .before .before .before .before .before .before .before .before .before .before .before .before in omega (arith, long z, room z .safeHighs)
+read-column-requires-4 c κs = let z = c .before .before .before .before .before .before .before .before .before .before .before .before .before .before .before .before in (has-cells z, omega arith, room z .safeHighs)
 
 read-column-requires-5 : tie.Need-read-column-requires-5
-read-column-requires-5 c κs = let z = c .before .before .before .before .before .before .before .before .before .before .before .before .before .before .before .before .before .before .before .before in omega (arith, long z, room z .weights)
+read-column-requires-5 c κs = let z = c .before .before .before .before .before .before .before .before .before .before .before .before .before .before .before .before .before .before .before .before in (has-cells z, omega arith, room z .weights)
 
-read-parents-requires : tie.Need-read-parents-requires
-read-parents-requires c κs = let z = c .before .before .before .before .before .before .before .before .before .before .before .before .before .before .before .before .before .before .before .before .before .before .before .before in omega (arith, long z, room z .parents)
+table-blocks-requires : tie.Need-table-blocks-requires
+table-blocks-requires c κs = (cell-fits, omega (arith, long (c .before .before .before .before .before .before .before .before .before .before .before .before .before .before .before .before .before .before .before .before .before .before .before)))
+
+add-read-column : tie.Need-add-read-column
+add-read-column c = omega (arith, long (c .before .before .before .before .before .before .before .before .before .before .before .before .before .before .before .before .before .before .before .before .before .before .before .before), c .table-blocks .ensures)
+
+read-column-requires-6 : tie.Need-read-column-requires-6
+read-column-requires-6 c κs =
+    let z = c .before .before .before .before .before .before .before .before .before .before .before .before .before .before .before .before .before .before .before .before .before .before .before .before .before in
+    (record { fits = list-fits; first = omega arith; whole = omega (arith, long z, c .before .table-blocks .ensures) }, omega arith, room z .parents)
 
 same-length : tie.Need-same-length
 same-length c = search needs
@@ -76,15 +90,15 @@ same-length-7 c = search needs
 
 returns : tie.Need-returns
 returns c =
-    let s = c .before .before .before .before .before .before .before .before .before .before .before .before .before .before .before .before .before .before .before .before .before .before .before .before .before .before .before .before .before .before .before .before .before .before .before .before in
-    lists-are (s .args .file .now) (given s) (c .before .before .before .before .before .before .before .before .before .before .before .before .before .before .before .before .before .before .before .before .before .before .before .before .before .before .before .before .payload-word .ensures) (c .before .before .before .before .before .before .before .before .before .before .before .before .before .before .before .before .before .before .before .before .before .before .before .before .before .before .before .payload-word2 .ensures)
-    (c .before .before .before .before .before .before .before .before .before .before .before .before .before .before .before .before .before .before .before .before .before .before .before .before .before .read-targets .ensures)
-    (c .before .before .before .before .before .before .before .before .before .before .before .before .before .before .before .before .before .before .before .before .before .before .read-column .ensures)
-    (c .before .before .before .before .before .before .before .before .before .before .before .before .before .before .before .before .before .before .read-column2 .ensures)
-    (c .before .before .before .before .before .before .before .before .before .before .before .before .before .before .read-column3 .ensures)
-    (c .before .before .before .before .before .before .before .before .before .before .read-column4 .ensures)
-    (c .before .before .before .before .before .before .read-column5 .ensures)
-    (c .before .before .read-parents .ensures)
+    let s = c .before .before .before .before .before .before .before .before .before .before .before .before .before .before .before .before .before .before .before .before .before .before .before .before .before .before .before .before .before .before .before .before .before .before .before .before .before in
+    lists-are (s .args .file .now) (given s) (c .before .before .before .before .before .before .before .before .before .before .before .before .before .before .before .before .before .before .before .before .before .before .before .before .before .before .before .before .before .payload-word .ensures) (c .before .before .before .before .before .before .before .before .before .before .before .before .before .before .before .before .before .before .before .before .before .before .before .before .before .before .before .before .payload-word2 .ensures) (c .before .before .before .before .table-blocks .ensures)
+    (c .before .before .before .before .before .before .before .before .before .before .before .before .before .before .before .before .before .before .before .before .before .before .before .before .before .before .read-signed .ensures)
+    (c .before .before .before .before .before .before .before .before .before .before .before .before .before .before .before .before .before .before .before .before .before .before .before .read-column .ensures)
+    (c .before .before .before .before .before .before .before .before .before .before .before .before .before .before .before .before .before .before .before .read-column2 .ensures)
+    (c .before .before .before .before .before .before .before .before .before .before .before .before .before .before .before .read-column3 .ensures)
+    (c .before .before .before .before .before .before .before .before .before .before .before .read-column4 .ensures)
+    (c .before .before .before .before .before .before .before .read-column5 .ensures)
+    (c .before .before .read-column6 .ensures)
 
 pub read-lists-spec : {M : Type 1} → statement M
 read-lists-spec =
@@ -94,13 +108,15 @@ read-lists-spec =
     cast-n
     payload-word-requires-2
     cast-m
-    read-targets-requires
+    read-signed-requires
     read-column-requires
     read-column-requires-2
     read-column-requires-3
     read-column-requires-4
     read-column-requires-5
-    read-parents-requires
+    table-blocks-requires
+    add-read-column
+    read-column-requires-6
     same-length
     same-length-2
     same-length-3

@@ -1,31 +1,25 @@
--- `field_file::verdicts::check_file_length` meets its contract: each test that is taken decides the verdict.
-use native.Mathlib.Omega.{arith}
-use borrow.Author.Tests.{le-ltb, lt-ltb, le-leb, lt-leb, eq-eqb, ne-eqb}
+-- `field_file::verdicts::check_file_length` meets its contract: its test is the definition's.
+use mathlib.Core.Path.{_∙_, ap}
+use mathlib.Core.Bool.{_&&_}
+use lib.Dec.{ltb}
+use Rattle.numbers.specs.Checks.{unless}
 use Rattle.formats.specs.ReadField.{checkFileLength}
+use borrow.Author.Needs.{needs}
 use Rattle.field_file.proofs.verdicts.check_file_length.Statement.{statement}
 use Rattle.field_file.proofs.verdicts.check_file_length.Tie as tie
 
+and-requires : tie.Need-and-requires
+and-requires c κs = search needs
+
+and-requires-2 : tie.Need-and-requires-2
+and-requires-2 c κs = search needs
+
+unless-requires : tie.Need-unless-requires
+unless-requires c κs = search needs
+
 returns : tie.Need-returns
 unfolding checkFileLength
-returns c = simp (le-ltb 0 (c .before .args .l) (omega arith))
-
-returns-2 : tie.Need-returns-2
-unfolding checkFileLength
-returns-2 c =
-    let l = c .before .before .args .l in
-    simp (lt-ltb 0 l (omega arith), lt-leb l 18432 (omega arith))
-
-returns-3 : tie.Need-returns-3
-unfolding checkFileLength
-returns-3 c =
-    let l = c .before .before .before .args .l in
-    simp (lt-ltb 0 l (omega arith), le-leb l 18432 (omega arith), ne-eqb _ _ (c .if3 .taken))
-
-returns-4 : tie.Need-returns-4
-unfolding checkFileLength
-returns-4 c =
-    let l = c .before .before .before .args .l in
-    simp (lt-ltb 0 l (omega arith), le-leb l 18432 (omega arith), eq-eqb _ _ (c .if3 .left))
+returns c = c .unless .ensures ∙ ap (λ b. unless b 14 0) (c .before .and2 .ensures ∙ ap (λ b. ltb 0 (c .before .before .before .args .l) && b) (c .before .before .and .ensures))
 
 pub check-file-length-spec : {M : Type 1} → statement M
-check-file-length-spec = tie.close (tie.spec returns returns-2 returns-3 returns-4)
+check-file-length-spec = tie.close (tie.spec and-requires and-requires-2 unless-requires returns)

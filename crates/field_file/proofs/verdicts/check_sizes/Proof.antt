@@ -1,33 +1,26 @@
--- `field_file::verdicts::check_sizes` meets its contract: no step of the reckoning overflows, and the test decides the verdict.
+-- `field_file::verdicts::check_sizes` meets its contract: its test is the definition's.
+use mathlib.Core.Path.{_∙_, ap}
+use Prim.Native.Nat.{_*_}
 use native.Mathlib.Omega.{arith}
-use borrow.Author.Tests.{eq-eqb, ne-eqb}
+use lib.Dec.{eqb}
+use Rattle.numbers.specs.Checks.{unless}
 use Rattle.formats.specs.ReadField.{checkSizes}
+use borrow.Author.Needs.{needs}
 use Rattle.field_file.proofs.verdicts.check_sizes.Statement.{statement}
 use Rattle.field_file.proofs.verdicts.check_sizes.Tie as tie
 
-add-if1 : tie.Need-add-if1
-add-if1 c = omega arith
+field-blocks-requires : tie.Need-field-blocks-requires
+field-blocks-requires c κs = omega arith
 
-add-if1-2 : tie.Need-add-if1-2
-add-if1-2 c = omega arith
+mul-unless : tie.Need-mul-unless
+mul-unless c = omega (arith, c .field-blocks .ensures)
 
-add-if1-3 : tie.Need-add-if1-3
-add-if1-3 c = omega arith
-
-add-if1-4 : tie.Need-add-if1-4
-add-if1-4 c = omega arith
-
-mul-if1 : tie.Need-mul-if1
-mul-if1 c = omega arith
+unless-requires : tie.Need-unless-requires
+unless-requires c κs = search needs
 
 returns : tie.Need-returns
 unfolding checkSizes
-returns c = simp (eq-eqb _ _ (c .if1 .taken))
-
-returns-2 : tie.Need-returns-2
-unfolding checkSizes
-returns-2 c = simp (ne-eqb _ _ (c .if1 .left))
+returns c = c .unless .ensures ∙ ap (λ k. unless (eqb (c .before .before .args .l) (512 * k)) 14 0) (c .before .field-blocks .ensures)
 
 pub check-sizes-spec : {M : Type 1} → statement M
-check-sizes-spec =
-    tie.close (tie.spec add-if1 add-if1-2 add-if1-3 add-if1-4 mul-if1 returns returns-2)
+check-sizes-spec = tie.close (tie.spec field-blocks-requires mul-unless unless-requires returns)

@@ -6,10 +6,10 @@ use lib.ListN.{length}
 use Rattle.numbers.specs.declared.Checked.the-variants.{Pass}
 use Rattle.numbers.specs.Checks.{both}
 use Rattle.numbers.proofs.CheckLaws.{on, stop}
-use Rattle.blocks.specs.Blocks.{checkSound, checkSpare}
-use Rattle.formats.specs.ReadField.{checkFileLength, checkMark, headVerdict}
+use Rattle.qlt.specs.Field.{Lists, lists}
+use Rattle.formats.specs.ReadField.{checkFileLength, blockChecks, sizeChecks, headVerdict}
 use Rattle.formats.proofs.ReadLaws.{length-decides}
-use Rattle.field_file.proofs.Laws.{three}
+use Rattle.field_file.proofs.Laws.{first-append}
 use borrow.Author.Needs.{needs}
 use Rattle.field_file.proofs.verdicts.head_verdict.Statement.{statement}
 use Rattle.field_file.proofs.verdicts.head_verdict.Tie as tie
@@ -45,8 +45,10 @@ then-requires c κs = search needs
 returns-2 : tie.Need-returns-2
 unfolding headVerdict
 returns-2 c =
-    let f = c .before .before .before .before .before .before .before .before .before .before .before .before .before .args .file .now in
-    on (passed (c .before .before .before)) (c .then .ensures ∙ ap₂ both (c .before .head-block .ensures) (c .before .before .sizes-verdict .ensures) ∙ three (checkSound f 1) (checkMark f) (checkSpare f 4 1) _)
+    let a = c .before .before .before .before .before .before .before .before .before .before .before .before .before .args in
+    let s : Lists = lists (a .targets .now) (a .lows .now) (a .highs .now) (a .safe-lows .now) (a .safe-highs .now) (a .weights .now) (a .parents .now) in
+    on (passed (c .before .before .before))
+    (c .then .ensures ∙ ap₂ both (c .before .head-block .ensures) (c .before .before .sizes-verdict .ensures) ∙ first-append (blockChecks (a .file .now)) (sizeChecks (a .file .now) s))
 
 pub head-verdict-spec : {M : Type 1} → statement M
 head-verdict-spec =

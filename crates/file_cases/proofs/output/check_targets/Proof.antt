@@ -1,8 +1,8 @@
 -- `file_cases::output::check_targets` is safe and ends: the check number stays a remainder.
-use Prim.Native.Nat.{_≤_, _<_, _-_}
+use Prim.Native.Nat.{_-_, _≤_, _<_}
 use native.Mathlib.Omega.{arith}
-use borrow.Author.Needs.{needs}
 use lib.ListN.{length}
+use borrow.Author.Needs.{needs}
 use Rattle.file_cases.proofs.output.check_targets.Statement.{statement}
 use Rattle.file_cases.proofs.output.check_targets.Tie as tie
 
@@ -15,14 +15,17 @@ abbrev μ-loop : tie.MeasureT-loop
 loop-holds : tie.Need-loop-holds Inv-loop μ-loop
 loop-holds c = omega arith
 
-mul-wide-target : tie.Need-mul-wide-target Inv-loop μ-loop
-mul-wide-target c = omega arith
+mul-signed-word : tie.Need-mul-signed-word Inv-loop μ-loop
+mul-signed-word c = omega arith
 
-shared-slice-copy-out-wide-target : tie.Need-shared-slice-copy-out-wide-target Inv-loop μ-loop
-shared-slice-copy-out-wide-target c = omega arith
+shared-slice-copy-out-signed-word : tie.Need-shared-slice-copy-out-signed-word Inv-loop μ-loop
+shared-slice-copy-out-signed-word c = omega arith
 
-wide-target-requires : tie.Need-wide-target-requires Inv-loop μ-loop
-wide-target-requires c κs = search needs
+signed-word-requires : tie.Need-signed-word-requires Inv-loop μ-loop
+signed-word-requires c κs = search needs
+
+wide-requires : tie.Need-wide-requires Inv-loop μ-loop
+wide-requires c κs = search needs
 
 mixed-requires : tie.Need-mixed-requires Inv-loop μ-loop
 mixed-requires c κs = omega arith
@@ -46,9 +49,10 @@ check-targets-spec =
     Inv-loop
     μ-loop
     loop-holds
-    mul-wide-target
-    shared-slice-copy-out-wide-target
-    wide-target-requires
+    mul-signed-word
+    shared-slice-copy-out-signed-word
+    signed-word-requires
+    wide-requires
     mixed-requires
     add-i
     loop-less

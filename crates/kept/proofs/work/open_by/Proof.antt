@@ -2,7 +2,7 @@
 use mathlib.Core.Path.{sym, _∙_, ap}
 use native.Mathlib.Omega.{arith}
 use Rattle.numbers.specs.Checks.{accepted, answered}
-use Rattle.qlt.specs.Checks.{sum}
+use Rattle.numbers.specs.Lists.{sum}
 use Rattle.account.specs.Open.{openTells, OpenFits}
 use Rattle.account.proofs.OpenLaws.{open-accepts}
 use borrow.Author.Needs.{needs}

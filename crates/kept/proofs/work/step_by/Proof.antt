@@ -4,11 +4,13 @@ use lib.IntN.{ℤ}
 use mir.Syntax.{w32}
 use mir.Val.{toZ, ofZ}
 use mir.ValLaws.{toZ-ofZ}
+use Rattle.numbers.specs.declared.Checked.the-variants.{Pass}
+use Rattle.numbers.specs.Checks.{accepted}
 use Rattle.qlt.specs.Field.{lists}
-use Rattle.account.specs.Step.{StepCall, stepCall, StepFits}
+use Rattle.qlt.specs.Operation.{RepairContract}
+use Rattle.account.specs.Step.{StepCall, stepCall, repairCall, StepFits, stepTells}
 use Rattle.account.proofs.StepLaws.{step-accepts}
-use Rattle.kept.specs.Totals.{StepRepaired}
-use Rattle.kept.proofs.TotalLaws.{step-done, step-refused}
+use Rattle.qlt.proofs.OperationLaws.{contract-done, contract-refused}
 use borrow.Author.Needs.{needs}
 use Rattle.kept.proofs.work.step_by.Statement.{statement}
 use Rattle.kept.proofs.work.step_by.Tie as tie
@@ -27,7 +29,8 @@ enum-known-verdict : tie.Need-enum-known-verdict
 enum-known-verdict c = search needs
 
 returns : tie.Need-returns
-returns c = step-refused (given (c .before .before .before .before .before .before .before .before .before .before)) _ _ (sym (c .before .before .before .before .before .before .before .before .before .before .pre) ∙ c .before .verdict .given .1)
+unfolding stepTells
+returns c = contract-refused (repairCall (given (c .before .before .before .before .before .before .before .before .before .before))) (sym (c .before .before .before .before .before .before .before .before .before .before .pre) ∙ c .before .verdict .given .1)
 
 enum-told : tie.Need-enum-told
 enum-told c = search needs
@@ -43,9 +46,10 @@ same-length-2 : tie.Need-same-length-2
 same-length-2 c = search needs
 
 returns-2 : tie.Need-returns-2
+unfolding stepTells
 returns-2 c = let s = c .before .before .before .before .before .before .before .before .before .before .before .before .before .before .before in
-    step-done (given s) (sym (s .pre) ∙ c .before .before .before .before .before .before .enum-told .given .1)
-    (subst (λ (z : ℤ). StepRepaired (givenAt s z) (c .before .before .before .step-on .result) (c .before .before .before .step-on .last .1 .0) (c .before .before .before .step-on .last .1 .1 .1 .1 .1 .1 .1 .1 .1 .1 .0)) (source-is s) (c .before .before .before .step-on .ensures))
+    contract-done (repairCall (given s)) (sym (s .pre) ∙ c .before .before .before .before .before .before .enum-told .given .1)
+    (subst (λ (z : ℤ). RepairContract Pass (repairCall (givenAt s z)) (accepted (c .before .before .before .step-on .result)) (c .before .before .before .step-on .last .1 .0) (c .before .before .before .step-on .last .1 .1 .1 .1 .1 .1 .1 .1 .1 .1 .0)) (source-is s) (c .before .before .before .step-on .ensures))
 
 pub step-by-spec : {M : Type 1} → statement M
 step-by-spec =

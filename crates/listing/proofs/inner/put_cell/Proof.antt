@@ -8,9 +8,9 @@ use mir.Syntax.{w32, w64}
 use mir.Val.{toZ, ofZ}
 use mir.ValLaws.{toZ-ofZ}
 use Rattle.numbers.proofs.SignedLaws.{signed, about, one-part, minus-parts}
-use Rattle.text.specs.Text.{signedNumber}
+use Rattle.text.specs.Text.{signedNumber, space, newline}
 use Rattle.text.proofs.TextLaws.{then, number-few, signed-few}
-use Rattle.listing.specs.Listing.{space, newline, cellLine}
+use Rattle.listing.specs.Listing.{cellLine}
 use borrow.Author.Needs.{needs}
 use Rattle.listing.proofs.inner.put_cell.Statement.{statement}
 use Rattle.listing.proofs.inner.put_cell.Tie as tie

@@ -1,25 +1,19 @@
--- `numbers::inner::check_count` meets its contract: each test that is taken decides the verdict.
-use native.Mathlib.Omega.{arith}
-use borrow.Author.Tests.{le-ltb, lt-ltb, le-leb, lt-leb}
-use Rattle.numbers.specs.Checks.{checkCount}
+-- `numbers::inner::check_count` meets its contract: its test is the definition's.
+use mathlib.Core.Path.{_∙_, ap}
+use borrow.Author.Needs.{needs}
+use Rattle.numbers.specs.Checks.{unless, checkCount}
 use Rattle.numbers.proofs.inner.check_count.Statement.{statement}
 use Rattle.numbers.proofs.inner.check_count.Tie as tie
 
+and-requires : tie.Need-and-requires
+and-requires c κs = search needs
+
+unless-requires : tie.Need-unless-requires
+unless-requires c κs = search needs
+
 returns : tie.Need-returns
 unfolding checkCount
-returns c = simp (le-ltb 0 (c .before .args .n) (omega arith))
-
-returns-2 : tie.Need-returns-2
-unfolding checkCount
-returns-2 c =
-    let n = c .before .before .args .n in
-    simp (lt-ltb 0 n (omega arith), lt-leb n 512 (omega arith))
-
-returns-3 : tie.Need-returns-3
-unfolding checkCount
-returns-3 c =
-    let n = c .before .before .args .n in
-    simp (lt-ltb 0 n (omega arith), le-leb n 512 (omega arith))
+returns c = c .unless .ensures ∙ ap (λ b. unless b 1 0) (c .before .and .ensures)
 
 pub check-count-spec : {M : Type 1} → statement M
-check-count-spec = tie.close (tie.spec returns returns-2 returns-3)
+check-count-spec = tie.close (tie.spec and-requires unless-requires returns)

@@ -1,16 +1,15 @@
--- `numbers::inner::check_long` meets its contract: the test decides the verdict.
-use borrow.Author.Tests.{le-leb, lt-leb}
+-- `numbers::inner::check_long` meets its contract: its test is the definition's.
 use Rattle.numbers.specs.Checks.{checkLong}
+use borrow.Author.Needs.{needs}
 use Rattle.numbers.proofs.inner.check_long.Statement.{statement}
 use Rattle.numbers.proofs.inner.check_long.Tie as tie
 
+unless-requires : tie.Need-unless-requires
+unless-requires c κs = search needs
+
 returns : tie.Need-returns
 unfolding checkLong
-returns c = simp (lt-leb _ _ (c .if1 .taken))
-
-returns-2 : tie.Need-returns-2
-unfolding checkLong
-returns-2 c = simp (le-leb _ _ (c .if1 .left))
+returns c = c .unless .ensures
 
 pub check-long-spec : {M : Type 1} → statement M
-check-long-spec = tie.close (tie.spec returns returns-2)
+check-long-spec = tie.close (tie.spec unless-requires returns)

@@ -1,4 +1,4 @@
--- `reconstruct::rebuild::rebuild` meets its contract: in each arm the outcome is known, so the lists that are handed on are the bounds in
+-- `reconstruct::inner::rebuild` meets its contract: in each arm the outcome is known, so the lists that are handed on are the bounds in
 -- force, by which a call that fits can be solved (`solvable`) and gets the masses of the whole tree (`rebuilt`).
 use mathlib.Core.Path.{_≡_, sym, _∙_}
 use Rattle.qlt.specs.Field.{lists, field, Outcome, attainable, below, above, outcome}
@@ -30,7 +30,7 @@ is-above c = number-2 _ (c .before .before .before .before .before .before .befo
 solve-requires : tie.Need-solve-requires
 solve-requires c κs =
     let s = c .before .before .before .before .before .before .before .before .before .before in
-    (solvable (given s) (s .pre .0) attainable (is-attainable (c .before .before)), s .pre .0 .field-fits .lengths .masses)
+    (solvable (given s) (s .pre .0) attainable (is-attainable (c .before .before)), s .pre .0 .shape .lengths .masses)
 
 same-length : tie.Need-same-length
 same-length c = search needs
@@ -46,7 +46,7 @@ returns c =
 solve-requires-2 : tie.Need-solve-requires-2
 solve-requires-2 c κs =
     let s = c .before .before .before .before .before .before .before .before .before .before .before in
-    (solvable (given s) (s .pre .0) below (is-below (c .before .before)), s .pre .0 .field-fits .lengths .masses)
+    (solvable (given s) (s .pre .0) below (is-below (c .before .before)), s .pre .0 .shape .lengths .masses)
 
 same-length-3 : tie.Need-same-length-3
 same-length-3 c = search needs
@@ -62,7 +62,7 @@ returns-2 c =
 solve-requires-3 : tie.Need-solve-requires-3
 solve-requires-3 c κs =
     let s = c .before .before .before .before .before .before .before .before .before .before .before in
-    (solvable (given s) (s .pre .0) above (is-above (c .before .before)), s .pre .0 .field-fits .lengths .masses)
+    (solvable (given s) (s .pre .0) above (is-above (c .before .before)), s .pre .0 .shape .lengths .masses)
 
 same-length-5 : tie.Need-same-length-5
 same-length-5 c = search needs

@@ -1,10 +1,10 @@
--- `reconstruct::rebuild::reconstruct_by` meets its contract: a verdict that fails is refused, and one that passes fits and is repaired.
+-- `reconstruct::inner::reconstruct_by` meets its contract: a verdict that fails is refused, and one that passes fits and is repaired.
 use mathlib.Core.Path.{_≡_, sym, _∙_}
 use Rattle.numbers.specs.declared.Checked.the-variants.{Pass}
 use Rattle.qlt.specs.Field.{lists}
 use Rattle.qlt.specs.Operation.{Call, call, verdict}
-use Rattle.qlt.proofs.OperationLaws.{accepts}
-use Rattle.reconstruct.proofs.RebuildLaws.{contract-refused, contract-done}
+use Rattle.qlt.specs.Operation.{tells}
+use Rattle.qlt.proofs.OperationLaws.{accepts, contract-refused, contract-done}
 use borrow.Author.Needs.{needs}
 use Rattle.reconstruct.proofs.inner.reconstruct_by.Statement.{statement}
 use Rattle.reconstruct.proofs.inner.reconstruct_by.Tie as tie
@@ -15,20 +15,21 @@ given c =
     call (lists (a .targets .now) (a .lows .now) (a .highs .now) (a .safe-lows .now) (a .safe-highs .now) (a .weights .now) (a .parents .now))
     (a .total) (a .masses .now) (a .scratch .now)
 
-passed : (c : tie.After-enum-told) → Pass ≡ verdict (given (c .before .before .before .before .before .before .before .before .before))
-passed c = sym (c .enum-told .given .1) ∙ c .before .before .before .before .before .before .before .before .before .pre
+passed : (c : tie.After-enum-told) → verdict (given (c .before .before .before .before .before .before .before .before .before)) ≡ Pass
+passed c = sym (c .before .before .before .before .before .before .before .before .before .pre) ∙ c .enum-told .given .1
 
 enum-known-verdict : tie.Need-enum-known-verdict
 enum-known-verdict c = search needs
 
 returns : tie.Need-returns
-returns c = let s = c .before .before .before .before .before .before .before .before .before .before in contract-refused (given s) (sym (c .before .verdict .given .1) ∙ s .pre)
+unfolding tells
+returns c = let s = c .before .before .before .before .before .before .before .before .before .before in contract-refused (given s) (sym (s .pre) ∙ c .before .verdict .given .1)
 
 enum-told : tie.Need-enum-told
 enum-told c = search needs
 
 repaired-requires : tie.Need-repaired-requires
-repaired-requires c κs = accepts (given (c .before .before .before .before .before .before .before .before .before .before .before)) .0 (sym (passed (c .before .before)))
+repaired-requires c κs = accepts (given (c .before .before .before .before .before .before .before .before .before .before .before)) .0 (passed (c .before .before))
 
 same-length : tie.Need-same-length
 same-length c = search needs
@@ -37,6 +38,7 @@ same-length-2 : tie.Need-same-length-2
 same-length-2 c = search needs
 
 returns-2 : tie.Need-returns-2
+unfolding tells
 returns-2 c =
     let s = c .before .before .before .before .before .before .before .before .before .before .before .before .before .before .before in
     contract-done (given s) (passed (c .before .before .before .before .before .before)) (c .before .before .before .repaired .ensures)

@@ -1,4 +1,4 @@
--- `reconstruct::rebuild::repaired` meets its contract: the outcome is that of the call, and the change is that of the masses.
+-- `reconstruct::inner::repaired` meets its contract: the outcome is that of the call, and the change is that of the masses.
 use mathlib.Core.Path.{_≡_}
 use Rattle.qlt.specs.Field.{lists}
 use Rattle.qlt.specs.Operation.{Call, call}

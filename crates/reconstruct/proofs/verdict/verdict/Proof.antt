@@ -1,16 +1,13 @@
--- `reconstruct::verdict::verdict` meets its contract: the checks of the field, then that of the total, which counts on the lists' lengths.
+-- `reconstruct::verdict::verdict` meets its contract: the checks of lengths, then those of values, which count on them, then that of the total.
 use mathlib.Core.Path.{_≡_, sym, _∙_}
 use native.Mathlib.Omega.{arith}
 use lib.ListN.{length}
-use Rattle.numbers.specs.declared.Checked.{Checked}
 use Rattle.numbers.specs.declared.Checked.the-variants.{Pass}
-use Rattle.numbers.specs.Checks.{both}
-use Rattle.numbers.proofs.CheckLaws.{on, stop}
+use Rattle.numbers.proofs.CheckLaws.{on, stop, last}
 use Rattle.qlt.specs.Field.{lists}
-use Rattle.qlt.specs.Checks.{shapeOf, valueChecks}
-use Rattle.qlt.specs.Operation.{Call, call, FieldFits}
-use Rattle.qlt.proofs.OperationLaws.{field-fits}
-use Rattle.reconstruct.proofs.RebuildLaws.{verdict-is}
+use Rattle.qlt.specs.Checks.{shapeOf, checkValues}
+use Rattle.qlt.specs.Operation.{Call, call, verdict}
+use Rattle.checks.proofs.CodeLaws.{sized}
 use borrow.Author.Needs.{needs}
 use Rattle.reconstruct.proofs.verdict.verdict.Statement.{statement}
 use Rattle.reconstruct.proofs.verdict.verdict.Tie as tie
@@ -21,46 +18,60 @@ given c =
     call (lists (a .targets .now) (a .lows .now) (a .highs .now) (a .safe-lows .now) (a .safe-highs .now) (a .weights .now) (a .parents .now))
     (a .total) (a .masses .now) (a .scratch .now)
 
--- the field's checks, and what they say where they have passed
-abbrev fieldOf : Call → Checked
-fieldOf c = both (shapeOf (length (c .masses)) (c .lists) (length (c .scratch))) (valueChecks (c .lists))
+abbrev Shaped : Call → Type 0
+Shaped c = shapeOf (length (c .masses)) (c .lists) (length (c .scratch)) ≡ Pass
 
-abbrev Fitting : Call → Type 0
-Fitting c = FieldFits (c .lists) (length (c .masses)) (length (c .scratch))
+-- the lengths are right, and so are the values
+shaped : (c : tie.After-enum-told) → Shaped (given (c .before .before .before .before .before .before .before .before .before .before))
+shaped c = sym (c .before .before .check-shape .ensures) ∙ c .enum-told .given .1
 
-passed : (c : tie.After-enum-told) → fieldOf (given (c .before .before .before .before .before .before .before .before .before .before)) ≡ Pass
-passed c = sym (c .before .before .field-checks .ensures) ∙ c .enum-told .given .1
+valued : (c : tie.After-enum-told2) → checkValues (given (c .before .before .before .before .before .before .before .before .before .before .before .before .before) .lists) ≡ Pass
+valued c = sym (c .before .before .check-values .ensures) ∙ c .enum-told2 .given .1
 
-fits : (c : tie.After-enum-told) → Fitting (given (c .before .before .before .before .before .before .before .before .before .before))
-fits c = field-fits _ _ _ .0 (passed c)
+check-shape-requires : tie.Need-check-shape-requires
+check-shape-requires c κs = search needs
 
-field-checks-requires : tie.Need-field-checks-requires
-field-checks-requires c κs = search needs
-
-enum-known-field : tie.Need-enum-known-field
-enum-known-field c = search needs
+enum-known-shape : tie.Need-enum-known-shape
+enum-known-shape c = search needs
 
 returns : tie.Need-returns
-returns c = verdict-is (given (c .before .before .before .before .before .before .before .before .before .before .before)) (stop _ (sym (c .before .before .before .field-checks .ensures) ∙ c .before .field .given .1))
+unfolding verdict
+returns c = stop _ (sym (c .before .before .before .check-shape .ensures) ∙ c .before .shape .given .1)
 
 enum-told : tie.Need-enum-told
 enum-told c = search needs
 
-check-reach-requires : tie.Need-check-reach-requires
-check-reach-requires c κs = let f = fits c in (omega (arith, f .few, f .lengths .safeLows), omega (arith, f .few, f .lengths .safeHighs))
+check-values-requires : tie.Need-check-values-requires
+check-values-requires c κs = sized (given (c .before .before .before .before .before .before .before .before .before .before) .lists) _ _ (shaped c)
+
+enum-known-values : tie.Need-enum-known-values
+enum-known-values c = search needs
 
 returns-2 : tie.Need-returns-2
-returns-2 c =
-    verdict-is (given (c .before .before .before .before .before .before .before .before .before .before .before))
-    (on (passed (c .before)) (c .check-reach .ensures))
+unfolding verdict
+returns-2 c = on (shaped (c .before .before .before .before)) (stop _ (sym (c .before .before .before .check-values .ensures) ∙ c .before .values .given .1))
+
+enum-told-2 : tie.Need-enum-told-2
+enum-told-2 c = search needs
+
+check-reach-requires : tie.Need-check-reach-requires
+check-reach-requires c κs = let f = sized (given (c .before .before .before .before .before .before .before .before .before .before .before .before .before) .lists) _ _ (shaped (c .before .before .before)) in (omega (arith, f .few, f .safeLows), omega (arith, f .few, f .safeHighs))
+
+returns-3 : tie.Need-returns-3
+unfolding verdict
+returns-3 c = on (shaped (c .before .before .before .before)) (on (valued (c .before)) (last _ (c .check-reach .ensures)))
 
 pub verdict-spec : {M : Type 1} → statement M
 verdict-spec =
     tie.close
     (tie.spec
-    field-checks-requires
-    enum-known-field
+    check-shape-requires
+    enum-known-shape
     returns
     enum-told
+    check-values-requires
+    enum-known-values
+    returns-2
+    enum-told-2
     check-reach-requires
-    returns-2)
+    returns-3)

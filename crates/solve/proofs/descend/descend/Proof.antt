@@ -1,6 +1,7 @@
 -- `solve::descend::descend` meets its contract: linking leaves what the masses go by (`planned-same`), and `Down` holds from turn to turn
 -- (`down-start`, `down-turn`); at n all inner nodes are split (`descended`).
 use mathlib.Core.Path.{_∙_}
+use native.Mathlib.Omega.{arith}
 use borrow.Author.Needs.{needs}
 use Rattle.numbers.specs.Lists.{at}
 use Rattle.passes.specs.Descent.{Planned, Down}
@@ -36,7 +37,7 @@ sub-v c = search needs
 split-group-requires : tie.Need-split-group-requires Inv-loop μ-loop
 split-group-requires c κs =
     let t = c .before in
-    down-splitting (plan (linked t)) (linked t .link .ensures .0) (t .before .loop .inv) (t .loop-test .taken)
+    down-splitting (plan (linked t)) (linked t .link .ensures .0) (t .before .loop .inv) (omega (arith, t .loop-test .taken))
 
 loop-less : tie.Need-loop-less Inv-loop μ-loop
 loop-less c = search needs
@@ -44,7 +45,7 @@ loop-less c = search needs
 loop-again : tie.Need-loop-again Inv-loop μ-loop
 loop-again c =
     let t = c .before .before .before in
-    down-turn (plan (linked t)) (linked t .link .ensures .0) (t .before .loop .inv) (t .loop-test .taken) (c .before .split-group .ensures)
+    down-turn (plan (linked t)) (linked t .link .ensures .0) (t .before .loop .inv) (omega (arith, t .loop-test .taken)) (c .before .split-group .ensures)
 
 same-length : tie.Need-same-length Inv-loop μ-loop
 same-length c = c .before .loop .inv .kept .long ∙ c .before .before .before .link .ensures .1 .long
@@ -52,7 +53,7 @@ same-length c = c .before .loop .inv .kept .long ∙ c .before .before .before .
 returns : tie.Need-returns Inv-loop μ-loop
 returns c =
     let a = c .before .before .before in
-    descended (c .before .before .before .before .before .before .pre .1 .plan) (a .link .ensures .1) (a .link .ensures .0) (c .before .loop .inv) (c .loop-test .left)
+    descended (c .before .before .before .before .before .before .pre .1 .plan) (a .link .ensures .1) (a .link .ensures .0) (c .before .loop .inv) (omega (arith, c .loop-test .left))
 
 pub descend-spec : {M : Type 1} → statement M
 descend-spec =

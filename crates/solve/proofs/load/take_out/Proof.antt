@@ -14,10 +14,10 @@ use Rattle.solve.proofs.load.take_out.Statement.{statement}
 use Rattle.solve.proofs.load.take_out.Tie as tie
 
 abbrev Inv-loop : tie.InvT-loop
-Inv-loop s masses₀ c₀ masses c = (c ≤ length masses₀) × (length masses ≡ length masses₀) × (masses ≡ written masses₀ 0 (listTo c (λ w. num MASS s w)))
+Inv-loop s masses₀ u₀ masses u = (u ≤ length masses₀) × (length masses ≡ length masses₀) × (masses ≡ written masses₀ 0 (listTo u (λ w. num MASS s w)))
 
 abbrev μ-loop : tie.MeasureT-loop
-μ-loop s masses₀ c₀ masses c = length masses₀ - c
+μ-loop s masses₀ u₀ masses u = length masses₀ - u
 
 loop-holds : tie.Need-loop-holds Inv-loop μ-loop
 loop-holds c = (omega arith, refl, written-none _ 0 _)
@@ -26,7 +26,7 @@ get-requires : tie.Need-get-requires Inv-loop μ-loop
 get-requires c κs = in-row _ (length (c .before .before .before .args .masses .now)) _ _ (omega arith) (omega arith) (c .before .before .before .pre .0)
 
 narrow-requires : tie.Need-narrow-requires Inv-loop μ-loop
-narrow-requires c κs = omega (arith, c .get .ensures .0, c .before .before .before .before .pre .1 (c .before .before .loop .c) (omega arith))
+narrow-requires c κs = omega (arith, c .get .ensures .0, c .before .before .before .before .pre .1 (c .before .before .loop .u) (omega arith))
 
 mul-masses : tie.Need-mul-masses Inv-loop μ-loop
 mul-masses c = search needs
@@ -34,8 +34,8 @@ mul-masses c = search needs
 slice-write-masses : tie.Need-slice-write-masses Inv-loop μ-loop
 slice-write-masses c = search needs
 
-add-c : tie.Need-add-c Inv-loop μ-loop
-add-c c = search needs
+add-u : tie.Need-add-u Inv-loop μ-loop
+add-u c = search needs
 
 loop-less : tie.Need-loop-less Inv-loop μ-loop
 loop-less c = search needs
@@ -46,10 +46,10 @@ loop-again c =
     let old = c .before .before .before .before .before .args .masses .now in
     let f : ℕ → ℕ = λ i. num MASS (c .before .before .before .before .before .args .s .now) i in (
       omega arith,
-      length-set (w .masses) (w .c) (c .narrow .result) ∙ w .inv .1,
-      ap₂ (λ (l : List ℕ) (x : ℕ). set l (w .c) x) (w .inv .2) (c .narrow .ensures ∙ c .before .get .ensures .0)
-          ∙ ap (λ i. set (written old 0 (listTo (w .c) f)) i (f (w .c))) (sym (zero-add (w .c)))
-          ∙ written-next old 0 f (w .c) (omega arith),
+      length-set (w .masses) (w .u) (c .narrow .result) ∙ w .inv .1,
+      ap₂ (λ (l : List ℕ) (x : ℕ). set l (w .u) x) (w .inv .2) (c .narrow .ensures ∙ c .before .get .ensures .0)
+          ∙ ap (λ i. set (written old 0 (listTo (w .u) f)) i (f (w .u))) (sym (zero-add (w .u)))
+          ∙ written-next old 0 f (w .u) (omega arith),
     )
 
 same-length : tie.Need-same-length Inv-loop μ-loop
@@ -58,7 +58,7 @@ same-length c = search needs
 returns : tie.Need-returns Inv-loop μ-loop
 returns c =
     let old = c .before .before .before .args .masses .now in
-    let e : c .before .loop .c ≡ length old = omega arith in
+    let e : c .before .loop .u ≡ length old = omega arith in
     c .before .loop .inv .2
     ∙ ap (λ k. written old 0 (listTo k (λ w. num MASS (c .before .before .before .args .s .now) w))) e
     ∙ written-all old _ (length old) refl
@@ -74,7 +74,7 @@ take-out-spec =
     narrow-requires
     mul-masses
     slice-write-masses
-    add-c
+    add-u
     loop-less
     loop-again
     same-length

@@ -1,9 +1,7 @@
 -- `split::checks::shape_checks` meets its contract.
-use mathlib.Core.Path.{_∙_, ap₂}
+use mathlib.Core.Path.{sym, _∙_, ap₂}
 use Rattle.numbers.specs.Checks.{both}
 use Rattle.numbers.proofs.CheckLaws.{both-pass}
-use mathlib.Core.Path.{sym}
-use Rattle.caas.specs.Operation.{shapeChecks}
 use borrow.Author.Needs.{needs}
 use Rattle.split.proofs.checks.shape_checks.Statement.{statement}
 use Rattle.split.proofs.checks.shape_checks.Tie as tie
@@ -18,7 +16,6 @@ then-requires : tie.Need-then-requires
 then-requires c κs = search needs
 
 returns : tie.Need-returns
-unfolding shapeChecks
 returns c = c .then .ensures ∙ ap₂ both (c .before .before .check-count .ensures) (c .before .check-lengths .ensures ∙ sym (both-pass _))
 
 pub shape-checks-spec : {M : Type 1} → statement M

@@ -5,7 +5,7 @@ use mir.Syntax.{w64}
 use mir.ValLaws.{toZ-ofZ}
 use Rattle.numbers.specs.declared.Checked.the-variants.{Pass}
 use Rattle.numbers.proofs.CheckLaws.{on, stop, last}
-use Rattle.caas.specs.Operation.{checkOrder, checkHighs, checkWeights, checkReach, valueChecks}
+use Rattle.caas.specs.Operation.{checkOrder, checkHighs, checkWeights, checkReach}
 use Rattle.split.specs.Sums.{Summable}
 use Rattle.split.proofs.CheckLaws.{highs-nonnegative, highs-summable, lows-summable}
 use borrow.Author.Needs.{needs}
@@ -29,7 +29,6 @@ enum-known-order : tie.Need-enum-known-order
 enum-known-order c = search needs
 
 returns : tie.Need-returns
-unfolding valueChecks
 returns c = stop _ (sym (c .before .before .before .check-order .ensures) ∙ c .before .order .given .1)
 
 enum-told : tie.Need-enum-told
@@ -42,7 +41,6 @@ enum-known-high : tie.Need-enum-known-high
 enum-known-high c = search needs
 
 returns-2 : tie.Need-returns-2
-unfolding valueChecks
 returns-2 c = on (order-passed (c .before .before .before .before)) (stop _ (ap (λ k. checkHighs k (c .before .before .before .before .before .before .before .args .highs .now)) (sym (c .before .before .before .before .before .before .before .pre .1)) ∙ sym (c .before .before .before .check-highs .ensures) ∙ c .before .high .given .1))
 
 enum-told-2 : tie.Need-enum-told-2
@@ -55,7 +53,6 @@ enum-known-weight : tie.Need-enum-known-weight
 enum-known-weight c = search needs
 
 returns-3 : tie.Need-returns-3
-unfolding valueChecks
 returns-3 c = on (order-passed (c .before .before .before .before .before .before .before)) (on (ap (λ k. checkHighs k (c .before .before .before .before .before .before .before .before .before .before .args .highs .now)) (sym (c .before .before .before .before .before .before .before .before .before .before .pre .1)) ∙ highs-passed (c .before .before .before .before)) (stop _ (ap (λ k. checkWeights k (c .before .before .before .before .before .before .before .before .before .before .args .weights .now)) (sym (c .before .before .before .before .before .before .before .before .before .before .pre .2)) ∙ sym (c .before .before .before .check-weights .ensures) ∙ c .before .weight .given .1)))
 
 enum-told-3 : tie.Need-enum-told-3
@@ -65,7 +62,6 @@ check-reach-requires : tie.Need-check-reach-requires
 check-reach-requires c κs = ((lows-summable (c .before .before .before .before .before .before .before .before .before .args .lows .now) (c .before .before .before .before .before .before .before .before .before .args .highs .now) (c .before .before .before .before .before .before .before .before .before .pre .1) (order-passed (c .before .before .before .before .before .before)) (highs-fit (c .before .before .before)), highs-fit (c .before .before .before)), c .before .before .before .before .before .before .before .before .before .pre .1)
 
 returns-4 : tie.Need-returns-4
-unfolding valueChecks
 returns-4 c = on (order-passed (c .before .before .before .before .before .before .before)) (on (ap (λ k. checkHighs k (c .before .before .before .before .before .before .before .before .before .before .args .highs .now)) (sym (c .before .before .before .before .before .before .before .before .before .before .pre .1)) ∙ highs-passed (c .before .before .before .before)) (on (ap (λ k. checkWeights k (c .before .before .before .before .before .before .before .before .before .before .args .weights .now)) (sym (c .before .before .before .before .before .before .before .before .before .before .pre .2)) ∙ sym (c .before .before .before .check-weights .ensures) ∙ c .before .enum-told3 .given .1) (last _ (c .check-reach .ensures ∙ ap (checkReach (length (c .before .before .before .before .before .before .before .before .before .before .args .lows .now)) (c .before .before .before .before .before .before .before .before .before .before .args .lows .now) (c .before .before .before .before .before .before .before .before .before .before .args .highs .now)) (toZ-ofZ w64 (c .before .before .before .before .before .before .before .before .before .before .args .total) (c .before .before .before .before .before .before .before .before .before .before .fits .total))))))
 
 pub value-checks-spec : {M : Type 1} → statement M

@@ -1,18 +1,28 @@
 -- `split::checks::verdict` meets its contract: the checks of lengths, then those of values.
 use mathlib.Core.Path.{_≡_, sym, _∙_, ap₂}
+use mathlib.Core.List.{List}
 use native.Mathlib.Omega.{arith}
 use lib.ListN.{length}
 use mir.Syntax.{w64}
 use mir.ValLaws.{toZ-ofZ}
+use Rattle.numbers.specs.declared.Checked.{Checked}
 use Rattle.numbers.specs.declared.Checked.the-variants.{Pass}
-use Rattle.numbers.proofs.CheckLaws.{on, stop, last}
-use Rattle.caas.specs.Operation.{shapeChecks, valueChecks, splitVerdict}
+use Rattle.numbers.specs.Checks.{first}
+use Rattle.numbers.proofs.CheckLaws.{on, stop}
+use Rattle.caas.specs.Operation.{splitShapeChecks, splitValueChecks, splitVerdict}
 use Rattle.caas.proofs.OperationLaws.{shape-passed}
+use Rattle.split.proofs.CheckLaws.{first-append}
 use borrow.Author.Needs.{needs}
 use Rattle.split.proofs.checks.verdict.Statement.{statement}
 use Rattle.split.proofs.checks.verdict.Tie as tie
 
-passed : (c : tie.After-enum-told) → shapeChecks (length (c .before .before .before .args .targets .now)) (length (c .before .before .before .args .lows .now)) (length (c .before .before .before .args .highs .now)) (length (c .before .before .before .args .weights .now)) (length (c .before .before .before .args .masses .now)) ≡ Pass
+abbrev shape : tie.Start → List Checked
+shape c = let a = c .args in splitShapeChecks (length (a .targets .now)) (length (a .lows .now)) (length (a .highs .now)) (length (a .weights .now)) (length (a .masses .now))
+
+abbrev values : tie.Start → List Checked
+values c = let a = c .args in splitValueChecks (length (a .targets .now)) (a .lows .now) (a .highs .now) (a .weights .now) (a .total)
+
+passed : (c : tie.After-enum-told) → first (shape (c .before .before .before)) ≡ Pass
 passed c = sym (c .before .before .shape-checks .ensures) ∙ c .enum-told .given .1
 
 shape-checks-requires : tie.Need-shape-checks-requires
@@ -23,7 +33,9 @@ enum-known-shape c = search needs
 
 returns : tie.Need-returns
 unfolding splitVerdict
-returns c = stop _ (sym (c .before .before .before .shape-checks .ensures) ∙ c .before .shape .given .1)
+returns c = let s = c .before .before .before .before in
+    stop _ (sym (c .before .before .before .shape-checks .ensures) ∙ c .before .shape .given .1)
+    ∙ sym (first-append (shape s) (values s))
 
 enum-told : tie.Need-enum-told
 enum-told c = search needs
@@ -33,9 +45,12 @@ value-checks-requires c κs = let l = shape-passed _ _ _ _ _ (passed c) in (omeg
 
 returns-2 : tie.Need-returns-2
 unfolding splitVerdict
-returns-2 c = let s = c .before .before .before .before .args in
+returns-2 c = let s = c .before .before .before .before in
+    let a = s .args in
     let l = shape-passed _ _ _ _ _ (passed (c .before)) in
-    on (passed (c .before)) (last _ (c .value-checks .ensures ∙ ap₂ (λ k z. valueChecks k (s .lows .now) (s .highs .now) (s .weights .now) z) (l .1 .0) (toZ-ofZ w64 (s .total) (c .before .before .before .before .fits .total))))
+    on (passed (c .before))
+    (c .value-checks .ensures ∙ ap₂ (λ k z. first (splitValueChecks k (a .lows .now) (a .highs .now) (a .weights .now) z)) (l .1 .0) (toZ-ofZ w64 (a .total) (s .fits .total)))
+    ∙ sym (first-append (shape s) (values s))
 
 pub verdict-spec : {M : Type 1} → statement M
 verdict-spec =

@@ -30,7 +30,7 @@ get-requires : tie.Need-get-requires Inv-loop μ-loop
 get-requires c κs = in-row _ (length (c .before .before .args .masses .now)) _ _ (omega arith) (omega (arith, long (c))) (c .before .before .pre)
 
 put-requires : tie.Need-put-requires Inv-loop μ-loop
-put-requires c κs = (c .before .before .loop-test .taken, c .before .get .ensures .1)
+put-requires c κs = (c .before .before .loop-test .taken, omega (arith, c .before .get .ensures .1))
 
 add-u : tie.Need-add-u Inv-loop μ-loop
 add-u c = search needs

@@ -1,0 +1,88 @@
+// For the crates of files: tables of records in the blocks of a file. Each function has its whole contract.
+ghost use mathlib.Core.Path.{_≡_};
+ghost use Prim.Native.Nat.{_+_, _*_, _-_, _/_, _≤_, _<_, _^_};
+ghost use lib.ListN.{length};
+ghost use Rattle.numbers.specs.Lists.{listTo, written};
+ghost use Rattle.blocks.specs.Words.{wordSigned};
+ghost use Rattle.blocks.specs.Blocks.{blockBytes};
+ghost use Rattle.blocks.specs.Tables.{tableBlocks, tableUsed, TableFits, tableWord, HasTable, listBlock};
+use crate::inner::fill_block;
+use crate::inner::payload_word;
+use crate::inner::word_signed;
+use numbers::inner::least;
+
+// A layout: how many words a record has, and how many records a block has.
+pub struct Table {
+    pub words: usize,
+    pub records: usize,
+}
+
+// A list of numbers: 125 to a block, one word each.
+pub const LIST: Table = Table {
+    words: 1,
+    records: 125,
+};
+
+// How many blocks n records take.
+pub fn table_blocks(table: Table, n: usize) -> usize
+    requires { ⌜ TableFits table × (n < 2 ^ 32) ⌝ }
+    ensures { λ r. ⌜ r ≡ tableBlocks table n ⌝ }
+{
+    (n + (table.records - 1)) / table.records
+}
+
+// How many payload words the k-th of these blocks uses, from 0.
+pub fn table_used(table: Table, n: usize, k: usize) -> usize
+    requires { ⌜ TableFits table × (table .records * k ≤ n) ⌝ }
+    ensures { λ r. ⌜ (r ≡ tableUsed table n k) × (r ≤ 125) ⌝ }
+{
+    table.words * least(table.records, n - table.records * k)
+}
+
+// Word j of record i, where the table starts at block `from`.
+fn table_word(file: &[u8], table: Table, from: usize, j: usize, i: usize) -> u32
+    requires { ⌜ TableFits table × (0 < from) × (512 * (from + i / table .records) ≤ length (now file)) × (j < table .words) ⌝ }
+    ensures { λ r. ⌜ r ≡ tableWord table (now (file .entry)) from j i ⌝ }
+{
+    payload_word(
+        file,
+        from + i / table.records,
+        table.words * (i % table.records) + j,
+    )
+}
+
+// Word j of each of n records, into the front of a list; and the same as signed numbers.
+pub fn read_column(file: &[u8], table: Table, from: usize, j: usize, n: usize, list: &mut [u32])
+    requires { ⌜ HasTable table (now file) from n × (j < table .words) × (n ≤ length (now list)) ⌝ }
+    ensures { λ _. ⌜ now (list .exit) ≡ written (now (list .entry)) 0 (listTo n (tableWord table (now (file .entry)) from j)) ⌝ }
+{
+    let mut i: usize = 0;
+    while i < n {
+        list[i] = table_word(file, table, from, j, i);
+        i += 1;
+    }
+}
+
+pub fn read_signed(file: &[u8], table: Table, from: usize, j: usize, n: usize, list: &mut [i32])
+    requires { ⌜ HasTable table (now file) from n × (j < table .words) × (n ≤ length (now list)) ⌝ }
+    ensures { λ _. ⌜ now (list .exit) ≡ written (now (list .entry)) 0 (listTo n (λ i. wordSigned (tableWord table (now (file .entry)) from j i))) ⌝ }
+{
+    let mut i: usize = 0;
+    while i < n {
+        list[i] = word_signed(table_word(file, table, from, j, i));
+        i += 1;
+    }
+}
+
+// The k-th block of the first n numbers of a list, 125 to a block, the first of them being block `from` of the file.
+pub fn put_list_block(buffer: &mut [u8], from: usize, list: &[u32], n: usize, k: usize)
+    requires { ⌜ (0 < from) × (from + k < 2 ^ 32) × (125 * k < n) × (n ≤ length (now list)) × (512 * (from + k) ≤ length (now buffer)) ⌝ }
+    ensures { λ _. ⌜ now (buffer .exit) ≡ written (now (buffer .entry)) (512 * (from + k - 1)) (blockBytes (from + k) (listBlock n (now (list .entry)) k)) ⌝ }
+{
+    let first = 125 * k;
+    let last = least(first + 125, n);
+    let at = 512 * (from + k - 1);
+    let end = at + 512;
+    let number = (from + k) as u32;
+    fill_block(&mut buffer[at..end], number, &list[first..last]);
+}

@@ -1,2 +1,0 @@
--- What the functions below the operations check.
-pub mod Totals

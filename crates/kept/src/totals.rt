@@ -1,0 +1,45 @@
+// The new total of a step, and the checks 12 and 13: for this crate and the crates above. Each function has its whole contract.
+ghost use mathlib.Core.Path.{_≡_};
+ghost use Prim.Native.Nat.{_≤_};
+ghost use lib.IntN.{pos, _+ℤ_};
+ghost use lib.Signed.{_≤ℤ_};
+ghost use lib.ListN.{length};
+ghost use Rattle.numbers.specs.Signed.{over};
+ghost use Rattle.numbers.specs.Checks.{maxTotal};
+ghost use Rattle.account.specs.Open.{checkTotal};
+ghost use Rattle.account.specs.Step.{checkKept};
+use numbers::Checked;
+use numbers::inner::and;
+use numbers::inner::at_most;
+use numbers::inner::sum_of;
+use numbers::inner::unless;
+
+// The total given plus the source.
+pub fn add_source(total: u32, source: i32) -> i64
+    ensures { λ r. ⌜ r ≡ pos total +ℤ source ⌝ }
+{
+    total as i64 + source as i64
+}
+
+// A total that has passed check 13, as M.
+pub fn whole(z: i64) -> u32
+    requires { ⌜ (pos 0 ≤ℤ z) × (z ≤ℤ pos maxTotal) ⌝ }
+    ensures { λ r. ⌜ r ≡ over z ⌝ }
+{
+    z as u32
+}
+
+// 12: kept masses that do not add up to the total given.
+pub fn check_kept(kept: &[u32], total: u32) -> Checked
+    requires { ⌜ length (now kept) ≤ 1024 ⌝ }
+    ensures { λ r. ⌜ r ≡ checkKept (now (kept .entry)) total ⌝ }
+{
+    unless(sum_of(kept) == total as u64, 12, 0)
+}
+
+// 13: a total below 0 or above 2147483647.
+pub fn check_total(z: i64) -> Checked
+    ensures { λ r. ⌜ r ≡ checkTotal z ⌝ }
+{
+    unless(and(at_most(0, z), at_most(z, 2147483647)), 13, 0)
+}

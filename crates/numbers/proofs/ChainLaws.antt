@@ -1,0 +1,110 @@
+-- Chains of checks and their rules as a whole: a chain that is another with checks of its own put in, and the numbers that rules refuse with,
+-- which are computed. Assumes nothing.
+use mathlib.Core.Path.{_≡_, refl, sym, _∙_, ap, subst}
+use mathlib.Core.Logic.{_⊎_, inl, inr, ⊎-elim, _↔_}
+use mathlib.Core.Bool.{Bool, true, false, _&&_, _||_, or-true}
+use mathlib.Core.List.{List, [], _∷_, _++_}
+use Prim.Native.Nat.{ℕ}
+use lib.Dec.{eqb}
+use borrow.Author.Tests.{eqb-true, eq-eqb}
+use Rattle.numbers.specs.declared.Checked.{Checked}
+use Rattle.numbers.specs.declared.Checked.the-variants.{Pass, Fail}
+use Rattle.numbers.specs.Checks.{both, first, Rule, Broken, DecidesAll, numbersOf, OneOf, RefuseWith, Extends}
+use Rattle.numbers.proofs.TestLaws.{clash, and-first, and-second}
+use Rattle.numbers.proofs.CheckLaws.{on, both-first, both-second, no-pass}
+
+-- ---- a chain that is another with checks of its own put in
+
+-- where it passes, the other passes
+pub extends-pass : {Own : ℕ → Type 0} {vs ws : List Checked} → Extends Own vs ws → first vs ≡ Pass → first ws ≡ Pass
+extends-pass Extends.end e = e
+extends-pass (Extends.shared {v} {vs} {ws} z) e = sym (on (both-first v (first vs) e) (sym (extends-pass z (both-second v (first vs) e))))
+extends-pass (Extends.extra {v} {vs} {ws} o z) e = extends-pass z (both-second v (first vs) e)
+
+-- where it fails, it is with a number of its own, or the other fails the same
+pub extends-fail : {Own : ℕ → Type 0} {vs ws : List Checked} {number place : ℕ} → Extends Own vs ws → first vs ≡ Fail number place → Own number ⊎ (first ws ≡ Fail number place)
+extends-fail Extends.end e = absurd (no-pass refl e)
+extends-fail {Own = Own} {number = number} {place} (Extends.shared {v} {vs} {ws} z) e = by-first v e (λ x. extends-fail z x)
+  where
+    by-first : (u : Checked) → both u (first vs) ≡ Fail number place → (first vs ≡ Fail number place → Own number ⊎ (first ws ≡ Fail number place)) → Own number ⊎ (both u (first ws) ≡ Fail number place)
+    by-first Pass x ih = ih x
+    by-first (Fail n p) x ih = inr x
+extends-fail {Own = Own} {number = number} {place} (Extends.extra {v} {vs} {ws} o z) e = by-first v o e (λ x. extends-fail z x)
+  where
+    by-first : (u : Checked) → ((n p : ℕ) → u ≡ Fail n p → Own n) → both u (first vs) ≡ Fail number place → (first vs ≡ Fail number place → Own number ⊎ (first ws ≡ Fail number place)) → Own number ⊎ (first ws ≡ Fail number place)
+    by-first Pass q x ih = ih x
+    by-first (Fail n p) q x ih = inl (q number place x)
+
+-- ---- the numbers that rules refuse with
+
+pub broken-number : (rs : List Rule) (n p : ℕ) → Broken rs n p → OneOf (numbersOf rs) n
+unfolding Broken OneOf
+broken-number [] n p h = h
+broken-number (r ∷ rs) n p h = ⊎-elim (λ f. inl (f .0)) (λ g. inr (broken-number rs n p (g .1))) h
+
+-- a verdict fails with a number of its rules
+pub fails-number : {v : Checked} {rs : List Rule} {n p : ℕ} → DecidesAll v rs → v ≡ Fail n p → OneOf (numbersOf rs) n
+fails-number {rs = rs} {n} {p} d e = broken-number rs n p (d .fails n p .0 e)
+
+pub one-append : (ms ns : List ℕ) (n : ℕ) → OneOf (ms ++ ns) n ↔ (OneOf ms n ⊎ OneOf ns n)
+unfolding OneOf
+one-append [] ns n = (λ h. inr h, λ h. ⊎-elim (λ f. absurd f) (λ g. g) h)
+one-append (m ∷ ms) ns n = (
+  λ h. ⊎-elim (λ e. inl (inl e)) (λ g. ⊎-elim (λ x. inl (inr x)) inr (one-append ms ns n .0 g)) h,
+  λ h. ⊎-elim (λ f. ⊎-elim inl (λ g. inr (one-append ms ns n .1 (inl g))) f) (λ g. inr (one-append ms ns n .1 (inr g))) h,
+)
+
+pub numbers-append : (rs ss : List Rule) → numbersOf (rs ++ ss) ≡ numbersOf rs ++ numbersOf ss
+numbers-append [] ss = refl
+numbers-append (r ∷ rs) ss = ap (λ ns. r .number ∷ ns) (numbers-append rs ss)
+
+-- a computed test of two lists of numbers: each number of the first is one of the second
+abbrev pub isOne : List ℕ → ℕ → Bool
+isOne [] n = false
+isOne (k ∷ ks) n = eqb n k || isOne ks n
+
+abbrev pub areOf : List ℕ → List ℕ → Bool
+areOf ns [] = true
+areOf ns (m ∷ ms) = isOne ns m && areOf ns ms
+
+is-one : (ks : List ℕ) (n : ℕ) → isOne ks n ≡ true → OneOf ks n
+unfolding OneOf
+is-one [] n e = absurd (clash e refl)
+is-one (k ∷ ks) n e = go (eqb n k) refl e (is-one ks n)
+  where
+    go : (b : Bool) → eqb n k ≡ b → b || isOne ks n ≡ true → (isOne ks n ≡ true → OneOf ks n) → (n ≡ k) ⊎ OneOf ks n
+    go true t f later = inl (eqb-true n k t)
+    go false t f later = inr (later f)
+
+one-is : (ks : List ℕ) (n : ℕ) → OneOf ks n → isOne ks n ≡ true
+unfolding OneOf
+one-is [] n h = absurd h
+one-is (k ∷ ks) n h = ⊎-elim (λ e. ap (λ b. b || isOne ks n) (eq-eqb n k e)) (λ g. ap (λ b. eqb n k || b) (one-is ks n g) ∙ or-true (eqb n k)) h
+
+-- rules are not broken with a number that none of them has: `not-broken rs k refl`
+pub not-broken : (rs : List Rule) (k : ℕ) → isOne (numbersOf rs) k ≡ false → (n p : ℕ) → n ≡ k → Broken rs n p → ⊥
+not-broken rs k f n p e h = clash (one-is (numbersOf rs) k (subst (OneOf (numbersOf rs)) e (broken-number rs n p h))) f
+
+-- and with a number that the first alone has, the first is broken
+pub broken-first : (r : Rule) (rs : List Rule) (k : ℕ) → isOne (numbersOf rs) k ≡ false → (n p : ℕ) → n ≡ k → Broken (r ∷ rs) n p → r .fault p
+unfolding Broken
+broken-first r rs k f n p e h = ⊎-elim (λ x. x .1) (λ y. absurd (not-broken rs k f n p e (y .1))) h
+
+are-of : (ns ms : List ℕ) → areOf ns ms ≡ true → (n : ℕ) → OneOf ms n → OneOf ns n
+unfolding OneOf
+are-of ns [] e n h = absurd h
+are-of ns (m ∷ ms) e n h =
+    ⊎-elim (λ q. rw q (is-one ns m (and-first (isOne ns m) (areOf ns ms) e))) (λ g. are-of ns ms (and-second (isOne ns m) (areOf ns ms) e) n g) h
+
+-- the numbers of rules are exactly these: `refuse-with rs ns refl refl`
+pub refuse-with : (rs : List Rule) (ns : List ℕ) → areOf ns (numbersOf rs) ≡ true → areOf (numbersOf rs) ns ≡ true → RefuseWith rs ns
+refuse-with rs ns a b n = (are-of ns (numbersOf rs) a n, are-of (numbersOf rs) ns b n)
+
+-- the same of one list of rules after another
+pub refuse-append :
+    (rs ss : List Rule) (ms ns ks : List ℕ) → RefuseWith rs ms → RefuseWith ss ns → areOf ks (ms ++ ns) ≡ true → areOf (ms ++ ns) ks ≡ true
+    → RefuseWith (rs ++ ss) ks
+refuse-append rs ss ms ns ks d e a b n = (
+  λ h. are-of ks (ms ++ ns) a n (one-append ms ns n .1 (⊎-elim (λ x. inl (d n .0 x)) (λ y. inr (e n .0 y)) (one-append (numbersOf rs) (numbersOf ss) n .0 (subst (λ l. OneOf l n) (numbers-append rs ss) h)))),
+  λ h. subst (λ l. OneOf l n) (sym (numbers-append rs ss)) (one-append (numbersOf rs) (numbersOf ss) n .1 (⊎-elim (λ x. inl (d n .1 x)) (λ y. inr (e n .1 y)) (one-append ms ns n .0 (are-of (ms ++ ns) ks b n h)))),
+)
