@@ -1,5 +1,6 @@
 #!/bin/sh
-# Builds the comparison program against the proved library and runs it: run.sh [SCALE], a percentage of the usual number of inputs.
+# Builds the comparison program against the proved library and runs it: run.sh [SCALE], a percentage of the usual number of inputs. With a
+# small SCALE not every refusal may occur, and then it fails.
 # `run.sh benchmark` measures the library against the second implementation instead. Library and program are taken from ../target.
 set -eu
 cd "$(dirname "$0")"
@@ -12,8 +13,9 @@ RUSTFLAGS="-L native=$library -C metadata=$sum"
 CARGO_TARGET_DIR=$target/compare
 PATH=$PATH:${CARGO_HOME:-${HOME:-}/.cargo}/bin # where Rust's installer puts cargo
 export RUSTFLAGS CARGO_TARGET_DIR PATH
-cargo build --release --offline --quiet
 if [ "${1:-}" = benchmark ]; then
-    exec "$CARGO_TARGET_DIR/release/benchmark"
+    cargo build --profile benchmark --features library --bin benchmark --offline --quiet
+    exec "$CARGO_TARGET_DIR/benchmark/benchmark"
 fi
+cargo build --release --features library --bin compare --offline --quiet
 exec "$CARGO_TARGET_DIR/release/compare" "$program" "$@"

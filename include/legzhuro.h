@@ -9,7 +9,25 @@
  * some 25 KB.
  *
  * legzhuro_reconstruct returns 0 or the refusal's number. The other calls return 0, or the refusal's number in the low 32 bits and its
- * place in the high 32: LEGZHURO_NUMBER and LEGZHURO_PLACE take them apart. README.md has a table of the numbers.
+ * place in the high 32: LEGZHURO_NUMBER and LEGZHURO_PLACE take them apart. A refusal is that of the first check that fails; each call
+ * lists its own in the order of the checks. The place is 0 unless the table names one.
+ *
+ *    1  no items or cells, or more than 512
+ *    2  fewer nodes than cells, or more than 1024
+ *    3  a list of another length, scratch under 6 numbers for each node, or a list or buffer for the answer that is too short
+ *    4  the parents are no tree (place: the smallest node that breaks a rule)
+ *    5  crossed bounds; in legzhuro_split also a low below 0 (place: the first item or cell)
+ *    6  the highs (in legzhuro_split) or safe highs add up to over 2147483647
+ *    7  the weights add up to over 2147483647; in legzhuro_split also a weight below 0
+ *    8  the total is out of reach: outside the sums of the bounds (in legzhuro_split) or of the safety bounds
+ *    9  a scale above 30
+ *   10  a double that is infinite or not a number (place: the field: target 0, low 1, high 2, safe low 3, safe high 4)
+ *   11  a double out of range after rounding (place: the field); in legzhuro_export a mass above 2147483647
+ *   12  the kept masses do not add up to the total given
+ *   13  a total below 0 or above 2147483647
+ *   14  a file of length 0, over 18432, no multiple of 512, or not that of its cells and nodes
+ *   15  a block of the file with a wrong number or check word
+ *   16  a file whose first payload word is not 512, or a spare word that is not 0
  */
 #ifndef LEGZHURO_H
 #define LEGZHURO_H
@@ -21,19 +39,23 @@
 extern "C" {
 #endif
 
+/* The number and the place of a return value; one of 32 bits has place 0. */
 #define LEGZHURO_NUMBER(returned) ((uint32_t)(returned))
-#define LEGZHURO_PLACE(returned) ((uint32_t)((returned) >> 32))
+#define LEGZHURO_PLACE(returned) ((uint32_t)((uint64_t)(returned) >> 32))
 
-#define LEGZHURO_MAX_CELLS 512
+#define LEGZHURO_MAX_CELLS 512 /* or items */
 #define LEGZHURO_MAX_NODES 1024
+#define LEGZHURO_MAX_TOTAL 2147483647 /* also the most that highs, safe highs or weights add up to */
+#define LEGZHURO_MAX_SCALE 30
+#define LEGZHURO_SCRATCH 6            /* scratch numbers for each node */
 #define LEGZHURO_MAX_FIELD_FILE 18432 /* bytes */
 #define LEGZHURO_MAX_ANSWER_FILE 3072 /* bytes */
-#define LEGZHURO_SCRATCH 6            /* scratch numbers for each node */
 
 /* Reads a field file's bytes, repairs the masses of its cells so that they add up to its total M, and writes the answer file to the front
  * of `answer`; bytes past the file are left alone. 3072 bytes are enough for every answer. Both formats are blocks of 512 bytes with a number
  * and check words; the scope paper has them ('Files').
- * Refusals: those of reading (14, 15, 16, 1, 2), then those of the repair (4 to 8), then 3 (`answer` is too short for the file). */
+ * Refusals: those of reading (14; 15, 16, 1, 2 of block 1; 14; 15, 16 of later blocks), then those of the repair (4 to 8), then 3 (`answer`
+ * is too short for the file). */
 uint32_t legzhuro_reconstruct(const uint8_t *file, size_t file_len, uint8_t *answer, size_t answer_len);
 
 /* Splits `total` among items: item i would like targets[i], must get a mass between lows[i] and highs[i], and shares what is missing or too

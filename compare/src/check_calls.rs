@@ -1,11 +1,12 @@
-//! Split, Open, Step, Import and Export through the calls from C, held to the second implementation: the value returned and every lent
-//! list at exit, entry by entry.
+//! Split, Open, Step, Import and Export through the calls from C, compared with the second implementation: the value returned and every
+//! lent list at exit, entry by entry.
 
-use crate::operations::{self, returned, LIMIT};
+use crate::calls;
+use crate::from_c::{self, returned};
+use crate::operations::{self, Refusal, LIMIT};
 use crate::random::{self, Random};
 use crate::tally::Tally;
-use crate::tree::{Desk, Field};
-use crate::{calls, doubles};
+use crate::tree::{Field, Workspace};
 
 /// How often inputs are broken: mostly not, and rarely in several ways at once, so that the order of the checks shows.
 fn breaks(random: &mut Random) -> u64 {
@@ -37,7 +38,7 @@ fn stretch<T: Copy>(random: &mut Random, list: &mut Vec<T>, filler: T) {
 }
 
 /// Any bits: what a lent list holds before the call.
-fn leftovers<T>(random: &mut Random, length: usize, make: impl Fn(u64) -> T) -> Vec<T> {
+fn any_bits<T>(random: &mut Random, length: usize, make: impl Fn(u64) -> T) -> Vec<T> {
     (0..length).map(|_| make(random.bits())).collect()
 }
 
@@ -56,9 +57,10 @@ pub struct SplitCall {
 /// Runs both sides; returns the masses of the second implementation.
 pub fn compare_split(tally: &mut Tally, call: &SplitCall) -> (u64, Vec<i64>) {
     let (mut mine, mut theirs) = (call.masses.clone(), call.masses.clone());
-    let expected = returned(operations::split(&call.targets, &call.lows, &call.highs, &call.weights, call.total, &mut mine));
+    let result = operations::split(&call.targets, &call.lows, &call.highs, &call.weights, call.total, &mut mine);
     let got = calls::split(&call.targets, &call.lows, &call.highs, &call.weights, call.total, &mut theirs);
-    tally.number(expected);
+    tally.answer(&result);
+    let expected = returned(result);
     tally.input((expected, &mine) == (got, &theirs), || {
         format!("split {call:?}: second implementation {expected:#x} {mine:?}, library {got:#x} {theirs:?}")
     });
@@ -121,7 +123,7 @@ fn make_split(random: &mut Random) -> SplitCall {
         highs: wide(&field.highs),
         weights: wide(&field.weights),
         total: i64::from(random::total(random, &field)),
-        masses: leftovers(random, cells, |bits| bits as i64),
+        masses: any_bits(random, cells, |bits| bits as i64),
     };
     if random.chance(20) {
         call.targets.iter_mut().for_each(|target| *target = any_number(random));
@@ -162,11 +164,12 @@ pub fn opens(tally: &mut Tally, random: &mut Random, count: u64) {
     for _ in 0..count {
         let kept = make_kept(random);
         let length = random.pick(&[0, 1, 1, 2, 5]);
-        let mut mine = leftovers(random, length, |bits| bits);
+        let mut mine = any_bits(random, length, |bits| bits);
         let mut theirs = mine.clone();
-        let expected = returned(operations::open(&kept, &mut mine));
+        let result = from_c::open(&kept, &mut mine);
         let got = calls::open(&kept, &mut theirs);
-        tally.number(expected);
+        tally.answer(&result);
+        let expected = returned(result);
         tally.input((expected, &mine) == (got, &theirs), || {
             format!("open {kept:?}: second implementation {expected:#x} {mine:?}, library {got:#x} {theirs:?}")
         });
@@ -201,13 +204,13 @@ impl StepExit {
 }
 
 /// Runs both sides; returns the exits of the second implementation and of the library.
-pub fn compare_step(tally: &mut Tally, desk: &mut Desk, call: &StepCall) -> (StepExit, StepExit) {
+pub fn compare_step(tally: &mut Tally, workspace: &mut Workspace, call: &StepCall) -> (StepExit, StepExit) {
     let (mut mine, mut theirs) = (StepExit::entry(call), StepExit::entry(call));
     let lists = call.field.lists();
-    let result = operations::step(desk, call.total, &mut mine.kept, call.source, &lists, &mut mine.scratch, &mut mine.answer);
+    let result = from_c::step(workspace, call.total, &mut mine.kept, call.source, &lists, &mut mine.scratch, &mut mine.answer);
     mine.returned = returned(result);
     theirs.returned = calls::step(call.total, &mut theirs.kept, call.source, &lists, &mut theirs.scratch, &mut theirs.answer);
-    tally.number(mine.returned);
+    tally.outcome(&result.map(|()| mine.answer[0] as u32));
     tally.input(mine == theirs, || format!("step {call:?}: second implementation {mine:?}, library {theirs:?}"));
     (mine, theirs)
 }
@@ -227,8 +230,8 @@ pub fn make_step(random: &mut Random, field: Field, wanted: u32) -> StepCall {
         total,
         kept: random::partition(random, total, field.targets.len()),
         source: (i64::from(wanted) - i64::from(total)) as i32,
-        scratch: leftovers(random, 6 * field.parents.len() + spare, |bits| bits as i64),
-        answer: leftovers(random, 3 + longer, |bits| bits),
+        scratch: any_bits(random, 6 * field.parents.len() + spare, |bits| bits as i64),
+        answer: any_bits(random, 3 + longer, |bits| bits),
         field,
     }
 }
@@ -286,7 +289,7 @@ pub fn break_step(random: &mut Random, call: &mut StepCall) {
 }
 
 pub fn steps(tally: &mut Tally, random: &mut Random, count: u64) {
-    let mut desk = Desk::default();
+    let mut workspace = Workspace::default();
     for _ in 0..count {
         let cells = random::cell_count(random);
         let field = random::field(random, cells);
@@ -295,7 +298,7 @@ pub fn steps(tally: &mut Tally, random: &mut Random, count: u64) {
         for _ in 0..breaks(random) {
             break_step(random, &mut call);
         }
-        compare_step(tally, &mut desk, &call);
+        compare_step(tally, &mut workspace, &call);
     }
 }
 
@@ -335,16 +338,17 @@ fn make_scale(random: &mut Random) -> u32 {
     }
 }
 
-pub fn compare_import(tally: &mut Tally, doubles: [f64; 5], scale: u32, units: &[i64]) -> (u64, Vec<i64>) {
+/// Runs both sides; returns what the second implementation gives, and its units.
+pub fn compare_import(tally: &mut Tally, doubles: [f64; 5], scale: u32, units: &[i64]) -> (Result<(), Refusal>, Vec<i64>) {
     let (mut mine, mut theirs) = (units.to_vec(), units.to_vec());
-    let expected = returned(doubles::import(doubles, scale, &mut mine));
+    let result = from_c::import(doubles, scale, &mut mine);
+    let expected = returned(result);
     let got = calls::import(doubles, scale, &mut theirs);
-    tally.number(expected);
     tally.input((expected, &mine) == (got, &theirs), || {
         let bits = doubles.map(f64::to_bits);
         format!("import {doubles:?} {bits:#x?} scale {scale}: second implementation {expected:#x} {mine:?}, library {got:#x} {theirs:?}")
     });
-    (expected, mine)
+    (result, mine)
 }
 
 pub fn imports(tally: &mut Tally, random: &mut Random, count: u64) {
@@ -357,22 +361,24 @@ pub fn imports(tally: &mut Tally, random: &mut Random, count: u64) {
             *double = if sound { double.abs() } else { 1.5 };
         }
         let length = random.pick(&[5, 5, 5, 5, 5, 5, 5, 5, 6, 6, 9, 4, 0]);
-        let units = leftovers(random, length, |bits| bits as i64);
-        compare_import(tally, doubles, scale, &units);
+        let units = any_bits(random, length, |bits| bits as i64);
+        let (result, _) = compare_import(tally, doubles, scale, &units);
+        tally.answer(&result);
     }
 }
 
-pub fn compare_export(tally: &mut Tally, mass: u32, scale: u32, value: &[f64]) -> (u64, Vec<u64>) {
+/// Runs both sides; returns the double of the second implementation.
+fn compare_export(tally: &mut Tally, mass: u32, scale: u32, value: &[f64]) -> Option<f64> {
     let (mut mine, mut theirs) = (value.to_vec(), value.to_vec());
-    let expected = returned(doubles::export(mass, scale, &mut mine));
+    let result = from_c::export(mass, scale, &mut mine);
+    let expected = returned(result);
     let got = calls::export(mass, scale, &mut theirs);
     let bits = |list: &[f64]| list.iter().map(|double| double.to_bits()).collect::<Vec<u64>>();
-    let (mine, theirs) = (bits(&mine), bits(&theirs));
-    tally.number(expected);
-    tally.input((expected, &mine) == (got, &theirs), || {
-        format!("export {mass} scale {scale}: second implementation {expected:#x} {mine:#x?}, library {got:#x} {theirs:#x?}")
+    tally.answer(&result);
+    tally.input((expected, bits(&mine)) == (got, bits(&theirs)), || {
+        format!("export {mass} scale {scale}: second implementation {expected:#x} {mine:?}, library {got:#x} {theirs:?}")
     });
-    (expected, mine)
+    result.is_ok().then(|| mine[0])
 }
 
 /// Exports, and imports what was exported in every field: it gives the mass again.
@@ -387,13 +393,11 @@ pub fn exports(tally: &mut Tally, random: &mut Random, count: u64) {
         };
         let scale = make_scale(random);
         let length = random.pick(&[0, 1, 1, 1, 2, 3]);
-        let value = leftovers(random, length, f64::from_bits);
-        let (expected, bits) = compare_export(tally, mass, scale, &value);
-        if expected == 0 {
-            let double = f64::from_bits(bits[0]);
+        let value = any_bits(random, length, f64::from_bits);
+        if let Some(double) = compare_export(tally, mass, scale, &value) {
             let (again, units) = compare_import(tally, [double; 5], scale, &[0; 5]);
-            if again != 0 || units != [i64::from(mass); 5] {
-                tally.difference(format!("export {mass} scale {scale}: imported again it is {again:#x} {units:?}"));
+            if again.is_err() || units != [i64::from(mass); 5] {
+                tally.difference(format!("export {mass} scale {scale}: imported again it is {again:?} {units:?}"));
             }
         }
     }

@@ -1,11 +1,12 @@
 //! The examples E1 to E10 of 01 and its places where programs stray, run through the second implementation and the library both.
 
 use crate::check_calls::{compare_import, compare_split, SplitCall};
-use crate::files::{parse_answer, reconstruct_file, write_field, FileDesk, MAX_ANSWER_FILE};
+use crate::files::{parse_answer, reconstruct_file, write_field, FileWorkspace, MAX_ANSWER_FILE};
+use crate::from_c::returned;
 use crate::listing::listing;
-use crate::operations::{reconstruct, returned};
+use crate::operations::{reconstruct, refuse_at};
 use crate::tally::Tally;
-use crate::tree::{Desk, Field};
+use crate::tree::{Field, Workspace};
 use crate::{calls, random};
 
 fn expect<T: PartialEq + std::fmt::Debug>(tally: &mut Tally, name: &str, got: T, expected: T) {
@@ -31,9 +32,9 @@ type Answer = Result<(u32, Vec<u32>, u64), (u32, u32)>;
 /// Outcome, masses and change, or the refusal, of both sides. The call on a file has no place: it is looked at as far as it goes.
 fn check_field(tally: &mut Tally, name: &str, field: &Field, total: u32, expected: Answer) {
     let (mut masses, mut scratch) = (vec![7; field.targets.len()], vec![7; 6 * field.parents.len()]);
-    let mine = reconstruct(&mut Desk::default(), &field.lists(), total, &mut masses, &mut scratch)
-        .map(|repair| (repair.outcome, masses, repair.change))
-        .map_err(|refusal| (refusal.number, refusal.place));
+    let result = reconstruct(&mut Workspace::default(), &field.lists(), total, &mut masses, &mut scratch);
+    tally.outcome(&result.map(|repair| repair.outcome));
+    let mine = result.map(|repair| (repair.outcome, masses, repair.change)).map_err(|refusal| (refusal.number, refusal.place));
     expect(tally, name, mine, expected.clone());
     let file = write_field(field, total);
     let mut buffer = [0; MAX_ANSWER_FILE];
@@ -54,8 +55,9 @@ fn check_split(tally: &mut Tally, name: &str, lists: [&[i64]; 4], total: i64, ex
 }
 
 fn check_import(tally: &mut Tally, name: &str, doubles: [f64; 5], expected: (u64, [i64; 5])) {
-    let (number, units) = compare_import(tally, doubles, 0, &[-9; 5]);
-    expect(tally, name, (number, units.as_slice()), (expected.0, &expected.1[..]));
+    let (result, units) = compare_import(tally, doubles, 0, &[-9; 5]);
+    tally.answer(&result);
+    expect(tally, name, (returned(result), units.as_slice()), (expected.0, &expected.1[..]));
 }
 
 const E1: &str = "outcome 0 cells 4 total 16 change 4\n0 0 2\n1 7 -2\n2 4 0\n3 5 0\n";
@@ -63,7 +65,7 @@ const E1: &str = "outcome 0 cells 4 total 16 change 4\n0 0 2\n1 7 -2\n2 4 0\n3 5
 fn fields(tally: &mut Tally) {
     let one = field(&[4, 4, 5, 5, 6, 6, 6], &[-2, 9, 4, 5], &[0; 4], &[8; 4], (0, 10));
     check_field(tally, "E1", &one, 16, Ok((0, vec![0, 7, 4, 5], 4)));
-    expect(tally, "E1 listing", listing(&mut FileDesk::default(), &write_field(&one, 16)), E1.to_string());
+    expect(tally, "E1 listing", listing(&mut FileWorkspace::default(), &write_field(&one, 16)), E1.to_string());
     // Sharing over all cells is what the flat tree does.
     let no_tree = field(&random::flat(4), &[-2, 9, 4, 5], &[0; 4], &[8; 4], (0, 10));
     check_field(tally, "stray: no tree", &no_tree, 16, Ok((0, vec![0, 8, 4, 4], 4)));
@@ -101,10 +103,10 @@ fn imports(tally: &mut Tally) {
 fn answer_file(tally: &mut Tally) {
     let one = field(&[4, 4, 5, 5, 6, 6, 6], &[-2, 9, 4, 5], &[0; 4], &[8; 4], (0, 10));
     let mut buffer = [1; 1024];
-    let length = reconstruct_file(&mut FileDesk::default(), &write_field(&one, 16), &mut buffer);
-    expect(tally, "E1 answer file", length, Ok(1024));
+    let length = reconstruct_file(&mut FileWorkspace::default(), &write_field(&one, 16), &mut buffer);
+    expect(tally, "E1 answer file", length.map(|(_, length)| length), Ok(1024));
     expect(tally, "E1 answer parsed", parse_answer(&buffer).map(|(_, masses)| masses), Some(vec![0, 7, 4, 5]));
-    expect(tally, "a returned value", returned(crate::operations::refuse_at(4, 3)), 4 | 3 << 32);
+    expect(tally, "a returned value", returned(refuse_at(4, 3)), 4 | 3 << 32);
 }
 
 pub fn examples(tally: &mut Tally) {

@@ -1,9 +1,9 @@
-//! The call on a field file's bytes and the program's listing, held to the second implementation: the value returned, the answer buffer
-//! byte for byte, and the program's output byte for byte.
+//! The call on a field file's bytes and the program's listing, compared with the second implementation: the value returned, the answer
+//! buffer byte for byte, and the program's output byte for byte.
 
 use crate::calls;
 use crate::files::{answer_file_length, field_file_length, reconstruct_file, repair_file, write_field};
-use crate::files::{seal, set_word, word, FileDesk, BLOCK, MAX_ANSWER_FILE};
+use crate::files::{set_check_words, set_word, word, FileWorkspace, BLOCK, MAX_ANSWER_FILE};
 use crate::listing::listing;
 use crate::random::{self, Random};
 use crate::tally::Tally;
@@ -29,17 +29,17 @@ fn some_block(random: &mut Random, file: &[u8]) -> usize {
 }
 
 /// Flips a bit of the file, with or without new check words.
-fn flip(random: &mut Random, file: &mut [u8], sealed: bool) {
+fn flip(random: &mut Random, file: &mut [u8], new_checks: bool) {
     let index = some_block(random, file);
     if let Some(block) = whole_block(file, index) {
         block[random.index(BLOCK)] ^= 1 << random.below(8);
-        if sealed {
-            seal(block);
+        if new_checks {
+            set_check_words(block);
         }
     }
 }
 
-/// Changes a word of a block and seals it. Spare words at the end are likely.
+/// Changes a word of a block and sets its check words. Spare words at the end are likely.
 fn change_word(random: &mut Random, file: &mut [u8], field: &Field) {
     let place = match random.below(4) {
         0 => random.index(6),
@@ -50,12 +50,13 @@ fn change_word(random: &mut Random, file: &mut [u8], field: &Field) {
     let index = some_block(random, file);
     if let Some(block) = whole_block(file, index) {
         set_word(block, place, value);
-        seal(block);
+        set_check_words(block);
     }
 }
 
-/// Swaps two words of a block, which leaves the first check word as it is; or moves one unit from word to word.
-fn mix_words(random: &mut Random, file: &mut [u8], sealed: bool) {
+/// Swaps two words of a block, which leaves the first check word as it is, or moves one unit from word to word; with or without new check
+/// words.
+fn mix_words(random: &mut Random, file: &mut [u8], new_checks: bool) {
     let (one, other) = (random.index(128), random.index(128));
     let swap = random.chance(50);
     let index = some_block(random, file);
@@ -68,13 +69,14 @@ fn mix_words(random: &mut Random, file: &mut [u8], sealed: bool) {
             set_word(block, one, first.wrapping_add(1));
             set_word(block, other, second.wrapping_sub(1));
         }
-        if sealed {
-            seal(block);
+        if new_checks {
+            set_check_words(block);
         }
     }
 }
 
-fn swap_blocks(random: &mut Random, file: &mut [u8], numbered: bool) {
+/// Swaps two blocks, with or without new numbers and check words.
+fn swap_blocks(random: &mut Random, file: &mut [u8], new_checks: bool) {
     let (one, other) = (some_block(random, file), some_block(random, file));
     if file.len() < BLOCK || one == other {
         return;
@@ -82,11 +84,11 @@ fn swap_blocks(random: &mut Random, file: &mut [u8], numbered: bool) {
     for byte in 0..BLOCK {
         file.swap(one * BLOCK + byte, other * BLOCK + byte);
     }
-    if numbered {
+    if new_checks {
         for index in [one, other] {
             let block = &mut file[index * BLOCK..(index + 1) * BLOCK];
             set_word(block, 0, index as u32 + 1);
-            seal(block);
+            set_check_words(block);
         }
     }
 }
@@ -115,32 +117,32 @@ fn change_counts(random: &mut Random, file: &mut Vec<u8>, field: &Field) {
     if let Some(block) = whole_block(file, 0) {
         set_word(block, 2, cells);
         set_word(block, 3, nodes);
-        seal(block);
+        set_check_words(block);
     }
     if cells < 2000 && nodes < 2000 && random.chance(70) {
         let before = file.len() / BLOCK;
         file.resize(field_file_length(cells as usize, nodes as usize), 0);
         for (index, block) in file.chunks_exact_mut(BLOCK).enumerate().skip(before) {
             set_word(block, 0, index as u32 + 1);
-            seal(block);
+            set_check_words(block);
         }
     }
 }
 
 fn damage(random: &mut Random, file: &mut Vec<u8>, field: &Field) {
-    let sealed = random.chance(50);
+    let new_checks = random.chance(50);
     match random.below(12) {
         0 => flip(random, file, false),
         1 | 2 => flip(random, file, true),
         3..=5 => change_word(random, file, field),
-        6 => mix_words(random, file, sealed),
-        7 => swap_blocks(random, file, sealed),
+        6 => mix_words(random, file, new_checks),
+        7 => swap_blocks(random, file, new_checks),
         8 => change_length(random, file),
         9 | 10 => change_counts(random, file, field),
         _ => {
             if let Some(block) = whole_block(file, 0) {
                 set_word(block, 4, random::total(random, field));
-                seal(block);
+                set_check_words(block);
             }
         }
     }
@@ -169,22 +171,23 @@ pub fn make_file(random: &mut Random) -> Vec<u8> {
 // ---- comparison ----
 
 /// Runs both sides on an answer buffer of the length given.
-pub fn compare_file(tally: &mut Tally, desk: &mut FileDesk, random: &mut Random, file: &[u8], length: usize) {
+pub fn compare_file(tally: &mut Tally, workspace: &mut FileWorkspace, random: &mut Random, file: &[u8], length: usize) {
     let mut mine: Vec<u8> = (0..length).map(|_| random.bits() as u8).collect();
     let mut theirs = mine.clone();
-    let expected = reconstruct_file(desk, file, &mut mine).map_or_else(|refusal| refusal.number, |_| 0);
+    let result = reconstruct_file(workspace, file, &mut mine).map(|(repair, _)| repair.outcome);
+    let expected = result.map_or_else(|refusal| refusal.number, |_| 0);
     let got = calls::reconstruct(file, &mut theirs);
-    tally.number(u64::from(expected));
+    tally.outcome(&result);
     tally.input((expected, &mine) == (got, &theirs), || {
         let first = mine.iter().zip(&theirs).position(|(one, other)| one != other);
         let sides = format!("second implementation {expected}, library {got}, first other byte {first:?}");
-        format!("file {file:?}, answer buffer of {length}: {sides}; the listing is {}", listing(desk, file))
+        format!("file {file:?}, answer buffer of {length}: {sides}; the listing is {}", listing(workspace, file))
     });
 }
 
 /// Field files through the call.
 pub fn files(tally: &mut Tally, random: &mut Random, count: u64) {
-    let mut desk = FileDesk::default();
+    let mut workspace = FileWorkspace::default();
     for _ in 0..count {
         let file = make_file(random);
         let exact = answer_file_length(if file.len() < BLOCK { 1 } else { word(&file, 2).min(512) as usize });
@@ -195,7 +198,7 @@ pub fn files(tally: &mut Tally, random: &mut Random, count: u64) {
             8 => exact - random.pick(&[1, 1, 512]),
             _ => random.index(exact + 1),
         };
-        compare_file(tally, &mut desk, random, &file, length);
+        compare_file(tally, &mut workspace, random, &file, length);
     }
 }
 
@@ -211,11 +214,11 @@ fn run_program(program: &Path, file: &[u8]) -> std::io::Result<Vec<u8>> {
 }
 
 pub fn listings(tally: &mut Tally, random: &mut Random, program: &Path, count: u64) {
-    let mut desk = FileDesk::default();
+    let mut workspace = FileWorkspace::default();
     for _ in 0..count {
         let file = make_file(random);
-        tally.number(repair_file(&mut desk, &file).map_or_else(|refusal| u64::from(refusal.number), |_| 0));
-        let expected = listing(&mut desk, &file);
+        tally.outcome(&repair_file(&mut workspace, &file).map(|repaired| repaired.repair.outcome));
+        let expected = listing(&mut workspace, &file);
         let got = run_program(program, &file).unwrap_or_else(|error| panic!("{}: {error}", program.display()));
         tally.input(expected.as_bytes() == got, || {
             format!("program on {file:?}: second implementation\n{expected}program\n{}", String::from_utf8_lossy(&got))

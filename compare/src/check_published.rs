@@ -1,17 +1,17 @@
 //! What the publication (Bradley, Bosler, Guba, Taylor, Barnett, SIAM J. Sci. Comput. 2019) says of its methods, in whole numbers: the
 //! redistribution of Figure 5.2(b), the norm of Proposition 3.3 and the deviation of Proposition 3.10(ii). The masses of the second
-//! implementation and of the library are held to it both, and to each other.
+//! implementation and of the library are both compared with it, and with each other.
 
 use crate::check_calls::{compare_step, make_step};
 use crate::random::{self, Random};
 use crate::tally::Tally;
-use crate::tree::{sum, Desk, Field};
+use crate::tree::{sum, Field, Workspace};
 
 /// Masses of a step that both sides take alike, its outcome and its change; nothing if it is refused. A difference between the sides is
 /// counted on the way, so what holds of these masses holds of both sides.
-fn repaired(tally: &mut Tally, random: &mut Random, desk: &mut Desk, field: &Field, total: u32) -> Option<(Vec<u32>, u64, u64)> {
+fn repaired(tally: &mut Tally, random: &mut Random, workspace: &mut Workspace, field: &Field, total: u32) -> Option<(Vec<u32>, u64, u64)> {
     let call = make_step(random, field.clone(), total);
-    let (exit, _) = compare_step(tally, desk, &call);
+    let (exit, _) = compare_step(tally, workspace, &call);
     (exit.returned == 0 && exit.answer[1] == u64::from(total)).then(|| (exit.kept, exit.answer[0], exit.answer[2]))
 }
 
@@ -32,7 +32,7 @@ fn translated(shift: usize) -> Vec<u32> {
 /// smallest subtree with m leaves or more that contains cell 32. For m a power of two each spanned cell holds one unit. Summed over the
 /// 64 translations the profile is then a triangle.
 fn redistribution(tally: &mut Tally, random: &mut Random, mass: u32, weight: u32) {
-    let mut desk = Desk::default();
+    let mut workspace = Workspace::default();
     let span = mass.next_power_of_two() as usize;
     let mut profile = [0; RING];
     for shift in 0..RING {
@@ -47,7 +47,7 @@ fn redistribution(tally: &mut Tally, random: &mut Random, mass: u32, weight: u32
             weights: vec![weight; RING],
             parents: translated(shift),
         };
-        let Some((masses, outcome, _)) = repaired(tally, random, &mut desk, &field, mass) else {
+        let Some((masses, outcome, _)) = repaired(tally, random, &mut workspace, &field, mass) else {
             tally.difference(format!("Figure 5.2(b), m {mass} shift {shift}: refused"));
             continue;
         };
@@ -145,7 +145,7 @@ fn deviation(tally: &mut Tally, field: &Field, total: u32, outcome: u64, masses:
     }
 }
 
-fn propositions(tally: &mut Tally, random: &mut Random, desk: &mut Desk) {
+fn propositions(tally: &mut Tally, random: &mut Random, workspace: &mut Workspace) {
     let cells = if random.chance(50) { random.between(1, 4) as usize } else { random::cell_count(random) };
     let mut field = random::field(random, cells);
     let is_flat = random.chance(60);
@@ -153,7 +153,7 @@ fn propositions(tally: &mut Tally, random: &mut Random, desk: &mut Desk) {
         field.parents = random::flat(cells);
     }
     let total = random::total(random, &field);
-    match repaired(tally, random, desk, &field, total) {
+    match repaired(tally, random, workspace, &field, total) {
         Some((_, 0, change)) => norm(tally, &field, total, is_flat, change),
         Some((masses, outcome, _)) => deviation(tally, &field, total, outcome, &masses),
         None => {}
@@ -166,8 +166,8 @@ pub fn published(tally: &mut Tally, random: &mut Random, count: u64) {
             redistribution(tally, random, mass, weight);
         }
     }
-    let mut desk = Desk::default();
+    let mut workspace = Workspace::default();
     for _ in 0..count {
-        propositions(tally, random, &mut desk);
+        propositions(tally, random, &mut workspace);
     }
 }

@@ -6,18 +6,10 @@ use crate::check_calls::{break_step, compare_step, StepCall};
 use crate::operations::LIMIT;
 use crate::random::{self, Random};
 use crate::tally::Tally;
-use crate::tree::{sum, Desk, Field};
+use crate::tree::{sum, Field, Workspace};
 
 /// Four years, one of them a leap year.
 pub const FOUR_YEARS: u64 = (4 * 365 + 1) * 48;
-
-/// What has been seen in a run.
-#[derive(Default, Debug)]
-pub struct Seen {
-    pub accepted: u64,
-    pub refused: u64,
-    pub outcomes: [u64; 3],
-}
 
 /// A field of the next step: targets near the kept masses, and bounds for which the total wanted has the outcome wanted or nearly so.
 /// They stand around masses that add up to the total, so that the step can be accepted.
@@ -76,32 +68,38 @@ fn good_call(random: &mut Random, kept: &[u32], total: u32) -> StepCall {
     }
 }
 
+/// Gives the call a source that takes the total just out of reach of the field.
+fn miss_total(random: &mut Random, call: &mut StepCall) {
+    let beyond = [sum(&call.field.safe_lows) as i64 - 1, sum(&call.field.safe_highs) as i64 + 1];
+    call.source = (random.pick(&beyond) - i64::from(call.total)).clamp(i64::from(i32::MIN), i64::from(i32::MAX)) as i32;
+}
+
 /// Makes steps until `steps` have been accepted.
-pub fn run(tally: &mut Tally, random: &mut Random, cells: usize, steps: u64) -> Seen {
+pub fn run(tally: &mut Tally, random: &mut Random, cells: usize, steps: u64) {
     let mut kept = random::partition(random, 1_000_000, cells);
     let mut opened = [0];
     if calls::open(&kept, &mut opened) != 0 || opened[0] != sum(&kept) {
         tally.difference(format!("open {kept:?}: {}", opened[0]));
     }
-    let (mut desk, mut seen) = (Desk::default(), Seen::default());
-    let (mut total, mut sources) = (opened[0] as u32, 0);
-    while seen.accepted < steps {
+    let mut workspace = Workspace::default();
+    let (mut total, mut sources, mut accepted) = (opened[0] as u32, 0, 0);
+    while accepted < steps {
         let mut call = good_call(random, &kept, total);
         let broken = random.chance(25);
-        if broken {
+        if broken && random.chance(10) {
+            miss_total(random, &mut call);
+        } else if broken {
             break_step(random, &mut call);
         }
         // A call that was broken in its total or its kept masses and is accepted nevertheless is none of this run.
         let belongs = call.total == total && call.kept == kept;
-        let (mine, theirs) = compare_step(tally, &mut desk, &call);
+        let (mine, theirs) = compare_step(tally, &mut workspace, &call);
         if theirs.returned != 0 {
-            seen.refused += 1;
             if !broken || theirs.kept != call.kept {
                 tally.difference(format!("refused step {call:?}: {theirs:?}"));
             }
         } else if belongs && mine == theirs {
-            seen.accepted += 1;
-            seen.outcomes[theirs.answer[0] as usize] += 1;
+            accepted += 1;
             sources += i64::from(call.source);
             let account = opened[0] as i64 + sources;
             let kept_sum = sum(&theirs.kept) as i64;
@@ -111,5 +109,4 @@ pub fn run(tally: &mut Tally, random: &mut Random, cells: usize, steps: u64) -> 
             (kept, total) = (theirs.kept, theirs.answer[1] as u32);
         }
     }
-    seen
 }

@@ -1,7 +1,7 @@
 //! Import and Export, after the section "Doubles" of 01. A double is taken apart into sign, whole mantissa and exponent; rounding is done
 //! on whole numbers, never with doubles. Written from 01 alone; shares no code with the library.
 
-use crate::operations::{refuse, refuse_at, Refusal, LIMIT};
+use crate::operations::{refuse, Refusal, LIMIT};
 
 const MAX_SCALE: u32 = 30;
 
@@ -75,27 +75,30 @@ fn round(parts: &Parts, scale: u32, rounding: Rounding) -> i128 {
     }
 }
 
-pub fn import(doubles: [f64; 5], scale: u32, units: &mut [i64]) -> Result<(), Refusal> {
-    if units.len() < 5 {
-        return refuse(3);
-    }
+/// A refusal of Import. One for a field carries the field's double as it came; the one for the scale carries none.
+#[derive(Clone, Copy, Debug)]
+pub struct ImportRefusal {
+    pub refusal: Refusal,
+    pub double: Option<f64>,
+}
+
+/// Returns the units, field by field.
+pub fn import(doubles: [f64; 5], scale: u32) -> Result<[i64; 5], ImportRefusal> {
     if scale > MAX_SCALE {
-        return refuse(9);
+        return Err(ImportRefusal { refusal: Refusal { number: 9, place: 0 }, double: None });
     }
-    let mut rounded = [0; 5];
+    let mut units = [0; 5];
     for (field, &double) in doubles.iter().enumerate() {
-        let Some(parts) = take_apart(double) else {
-            return refuse_at(10, field);
-        };
+        let refused = |number| ImportRefusal { refusal: Refusal { number, place: field as u32 }, double: Some(double) };
+        let parts = take_apart(double).ok_or(refused(10))?;
         let unit = round(&parts, scale, ROUNDINGS[field]);
         let least = if field == 0 { -2147483648 } else { 0 };
         if unit < least || unit > i128::from(LIMIT) {
-            return refuse_at(11, field);
+            return Err(refused(11));
         }
-        rounded[field] = unit as i64;
+        units[field] = unit as i64;
     }
-    units[..5].copy_from_slice(&rounded);
-    Ok(())
+    Ok(units)
 }
 
 /// The double that is exactly mass times 2^-scale, put together from its bits.
@@ -109,16 +112,12 @@ fn put_together(mass: u32, scale: u32) -> f64 {
     f64::from_bits(field << 52 | fraction)
 }
 
-pub fn export(mass: u32, scale: u32, value: &mut [f64]) -> Result<(), Refusal> {
-    if value.is_empty() {
-        return refuse(3);
-    }
+pub fn export(mass: u32, scale: u32) -> Result<f64, Refusal> {
     if scale > MAX_SCALE {
         return refuse(9);
     }
     if u64::from(mass) > LIMIT {
         return refuse(11);
     }
-    value[0] = put_together(mass, scale);
-    Ok(())
+    Ok(put_together(mass, scale))
 }

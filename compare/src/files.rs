@@ -2,7 +2,7 @@
 //! shares no code with the library.
 
 use crate::operations::{reconstruct, refuse, refuse_at, Refusal, MAX_CELLS, MAX_NODES};
-use crate::tree::{sum, Desk, Field, Repair};
+use crate::tree::{sum, Field, Lists, Repair, Workspace};
 
 pub const BLOCK: usize = 512;
 pub const MAX_FIELD_FILE: usize = 36 * BLOCK;
@@ -33,7 +33,7 @@ fn check_words(block: &[u8]) -> (u32, u32) {
 }
 
 /// Writes a block's check words.
-pub fn seal(block: &mut [u8]) {
+pub fn set_check_words(block: &mut [u8]) {
     let (first, second) = check_words(block);
     set_word(block, 126, first);
     set_word(block, 127, second);
@@ -48,8 +48,14 @@ fn block_mut(file: &mut [u8], number: usize) -> &mut [u8] {
     &mut file[(number - 1) * BLOCK..number * BLOCK]
 }
 
+/// The payload of block `number` as a part of the file: words 1 to 125. It is empty if the file has no such block whole.
+pub fn payload(file: &[u8], number: usize) -> &[u8] {
+    let index = number.checked_sub(1);
+    index.and_then(|index| file.chunks_exact(BLOCK).nth(index)).map_or(&[], |block| &block[4..4 + 4 * PAYLOAD])
+}
+
 /// Refusal 15: a block's number and check words.
-fn check_sealed(file: &[u8], number: usize) -> Result<(), Refusal> {
+fn check_block(file: &[u8], number: usize) -> Result<(), Refusal> {
     let block = block(file, number);
     if word(block, 0) as usize != number || check_words(block) != (word(block, 126), word(block, 127)) {
         return refuse_at(15, number);
@@ -91,7 +97,7 @@ fn list_position(first_block: usize, index: usize) -> (usize, usize) {
 fn number_blocks(file: &mut [u8]) {
     for (index, block) in file.chunks_mut(BLOCK).enumerate() {
         set_word(block, 0, index as u32 + 1);
-        seal(block);
+        set_check_words(block);
     }
 }
 
@@ -118,12 +124,20 @@ pub fn write_field(field: &Field, total: u32) -> Vec<u8> {
     file
 }
 
-/// The checks of reading up to the length: cells and nodes.
-fn check_header(file: &[u8]) -> Result<(usize, usize), Refusal> {
+/// What block 1 of a field file says.
+#[derive(Clone, Copy, Debug, PartialEq)]
+pub struct Header {
+    pub cells: usize,
+    pub nodes: usize,
+    pub total: u32,
+}
+
+/// The checks of reading up to the file's length.
+fn check_header(file: &[u8]) -> Result<Header, Refusal> {
     if file.is_empty() || file.len() > MAX_FIELD_FILE || file.len() % BLOCK != 0 {
         return refuse(14);
     }
-    check_sealed(file, 1)?;
+    check_block(file, 1)?;
     if word(file, 1) != MARK {
         return refuse_at(16, 1);
     }
@@ -138,51 +152,54 @@ fn check_header(file: &[u8]) -> Result<(usize, usize), Refusal> {
     if file.len() != field_file_length(cells, nodes) {
         return refuse(14);
     }
-    Ok((cells, nodes))
+    Ok(Header { cells, nodes, total: word(file, 4) })
+}
+
+/// Refusal 3: lists too short for the cells and nodes.
+fn check_room(field: &Field, header: &Header) -> Result<(), Refusal> {
+    let words = [&field.lows, &field.highs, &field.safe_lows, &field.safe_highs, &field.weights];
+    let short = field.targets.len() < header.cells || words.iter().any(|list| list.len() < header.cells);
+    if short || field.parents.len() < header.nodes {
+        return refuse(3);
+    }
+    Ok(())
 }
 
 /// The checks of the later blocks, in order.
-fn check_later_blocks(file: &[u8], cells: usize, nodes: usize) -> Result<(), Refusal> {
+fn check_later_blocks(file: &[u8], header: &Header) -> Result<(), Refusal> {
+    let first_parents = 2 + cell_blocks(header.cells);
     for number in 2..=file.len() / BLOCK {
-        let used = if number < 2 + cell_blocks(cells) {
-            WORDS_OF_CELL * (cells - (number - 2) * CELLS_IN_BLOCK).min(CELLS_IN_BLOCK)
+        let used = if number < first_parents {
+            WORDS_OF_CELL * (header.cells - (number - 2) * CELLS_IN_BLOCK).min(CELLS_IN_BLOCK)
         } else {
-            (nodes - (number - 2 - cell_blocks(cells)) * PAYLOAD).min(PAYLOAD)
+            (header.nodes - (number - first_parents) * PAYLOAD).min(PAYLOAD)
         };
-        check_sealed(file, number)?;
+        check_block(file, number)?;
         check_spare(file, number, used)?;
     }
     Ok(())
 }
 
-fn read_cells(file: &[u8], cells: usize, field: &mut Field) {
-    field.targets.clear();
-    for list in [&mut field.lows, &mut field.highs, &mut field.safe_lows, &mut field.safe_highs, &mut field.weights] {
-        list.clear();
-    }
-    for cell in 0..cells {
+/// Reads a field file into the lists lent, of any lengths; entries past its cells and nodes are left alone.
+pub fn read_field(file: &[u8], field: &mut Field) -> Result<Header, Refusal> {
+    let header = check_header(file)?;
+    check_room(field, &header)?;
+    check_later_blocks(file, &header)?;
+    for cell in 0..header.cells {
         let (number, first) = cell_position(cell);
         let block = block(file, number);
-        field.targets.push(word(block, first) as i32);
-        field.lows.push(word(block, first + 1));
-        field.highs.push(word(block, first + 2));
-        field.safe_lows.push(word(block, first + 3));
-        field.safe_highs.push(word(block, first + 4));
-        field.weights.push(word(block, first + 5));
+        field.targets[cell] = word(block, first) as i32;
+        field.lows[cell] = word(block, first + 1);
+        field.highs[cell] = word(block, first + 2);
+        field.safe_lows[cell] = word(block, first + 3);
+        field.safe_highs[cell] = word(block, first + 4);
+        field.weights[cell] = word(block, first + 5);
     }
-}
-
-/// Reads a field file; returns the total. The lists grow as needed, so that nothing is too short for n and m.
-pub fn read_field(file: &[u8], field: &mut Field) -> Result<u32, Refusal> {
-    let (cells, nodes) = check_header(file)?;
-    check_later_blocks(file, cells, nodes)?;
-    read_cells(file, cells, field);
-    field.parents.clear();
-    for node in 0..nodes {
-        let (number, index) = list_position(2 + cell_blocks(cells), node);
-        field.parents.push(word(block(file, number), index));
+    for node in 0..header.nodes {
+        let (number, index) = list_position(2 + cell_blocks(header.cells), node);
+        field.parents[node] = word(block(file, number), index);
     }
-    Ok(word(file, 4))
+    Ok(header)
 }
 
 /// Writes an answer file to the front of the buffer; returns its length.
@@ -221,8 +238,8 @@ pub fn parse_answer(file: &[u8]) -> Option<(Repair, Vec<u32>)> {
         return None;
     }
     let cells = word(file, 2) as usize;
-    let sealed = (1..=file.len() / BLOCK).all(|number| check_sealed(file, number).is_ok());
-    if !sealed || word(file, 1) != MARK || file.len() != answer_file_length(cells) || check_spare(file, 1, 6).is_err() {
+    let checked = (1..=file.len() / BLOCK).all(|number| check_block(file, number).is_ok());
+    if !checked || word(file, 1) != MARK || file.len() != answer_file_length(cells) || check_spare(file, 1, 6).is_err() {
         return None;
     }
     let change = u64::from(word(file, 5)) | u64::from(word(file, 6)) << 32;
@@ -234,25 +251,44 @@ pub fn parse_answer(file: &[u8]) -> Option<(Repair, Vec<u32>)> {
     Some((repair, (0..cells).map(mass).collect()))
 }
 
-/// Working space of the call on a field file, used again from call to call.
-#[derive(Default)]
-pub struct FileDesk {
-    desk: Desk,
+/// Working space of the call on a field file, used again from call to call. Its lists have room for every field.
+pub struct FileWorkspace {
+    tree: Workspace,
     scratch: Vec<i64>,
-    pub field: Field,
-    pub masses: Vec<u32>,
+    field: Field,
+    masses: Vec<u32>,
 }
 
-/// Reads a field file and reconstructs; field and masses stand in the desk.
-pub fn repair_file(desk: &mut FileDesk, file: &[u8]) -> Result<Repair, Refusal> {
-    let total = read_field(file, &mut desk.field)?;
-    desk.masses.resize(desk.field.targets.len(), 0);
-    desk.scratch.resize(6 * desk.field.parents.len(), 0);
-    reconstruct(&mut desk.desk, &desk.field.lists(), total, &mut desk.masses, &mut desk.scratch)
+impl Default for FileWorkspace {
+    fn default() -> FileWorkspace {
+        FileWorkspace {
+            tree: Workspace::default(),
+            scratch: vec![0; 6 * MAX_NODES],
+            field: Field::filled(MAX_CELLS, MAX_NODES, 0),
+            masses: vec![0; MAX_CELLS],
+        }
+    }
 }
 
-/// The call from C: reading, then Reconstruct, then writing. Returns the answer's length.
-pub fn reconstruct_file(desk: &mut FileDesk, file: &[u8], answer: &mut [u8]) -> Result<usize, Refusal> {
-    let repair = repair_file(desk, file)?;
-    write_answer(desk.masses.len(), repair, &desk.masses, answer)
+/// A repaired field file: what the repair gives, and targets and masses of its cells.
+pub struct RepairedFile<'a> {
+    pub repair: Repair,
+    pub targets: &'a [i32],
+    pub masses: &'a [u32],
+}
+
+/// Reads a field file and reconstructs.
+pub fn repair_file<'a>(workspace: &'a mut FileWorkspace, file: &[u8]) -> Result<RepairedFile<'a>, Refusal> {
+    let header = read_field(file, &mut workspace.field)?;
+    let lists: Lists = workspace.field.lists().first(header.cells, header.nodes);
+    let masses = &mut workspace.masses[..header.cells];
+    let repair = reconstruct(&mut workspace.tree, &lists, header.total, masses, &mut workspace.scratch)?;
+    Ok(RepairedFile { repair, targets: lists.targets, masses })
+}
+
+/// The call from C: reading, then Reconstruct, then writing. Returns the repair and the answer's length.
+pub fn reconstruct_file(workspace: &mut FileWorkspace, file: &[u8], answer: &mut [u8]) -> Result<(Repair, usize), Refusal> {
+    let RepairedFile { repair, masses, .. } = repair_file(workspace, file)?;
+    let length = write_answer(masses.len(), repair, masses, answer)?;
+    Ok((repair, length))
 }

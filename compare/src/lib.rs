@@ -1,15 +1,23 @@
 //! A second implementation of the paper 01 (`split`, `tree`, `operations`, `doubles`, `files`, `listing`), written from the paper alone and
-//! sharing no code with the proved library, and what holds the library to it: the calls from C (`calls`), inputs (`random`), and the
-//! checks that the comparison program runs (`tally` and `check_...`).
+//! sharing no code with the proved library, and, with the feature `library`, what compares the library with it: the calls from C
+//! (`calls`, and `from_c` for the second implementation's side), inputs (`random`), and the checks that the comparison program runs
+//! (`tally` and `check_...`).
 
+#[cfg(feature = "library")]
 pub mod calls;
+#[cfg(feature = "library")]
 pub mod check_calls;
+#[cfg(feature = "library")]
 pub mod check_examples;
+#[cfg(feature = "library")]
 pub mod check_files;
+#[cfg(feature = "library")]
 pub mod check_published;
+#[cfg(feature = "library")]
 pub mod check_run;
 pub mod doubles;
 pub mod files;
+pub mod from_c;
 pub mod listing;
 pub mod operations;
 pub mod random;

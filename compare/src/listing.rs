@@ -1,18 +1,32 @@
 //! The text that the program prints for a field file, after the section "Examples" of 01. Written from 01 alone; shares no code with the
 //! library.
 
-use crate::files::{repair_file, FileDesk};
+use crate::files::{repair_file, FileWorkspace};
+use crate::operations::{refuse, Refusal};
 use std::fmt::Write;
 
-pub fn listing(desk: &mut FileDesk, file: &[u8]) -> String {
-    let repair = match repair_file(desk, file) {
-        Ok(repair) => repair,
+/// Room for the longest text.
+pub const MAX_TEXT: usize = 16384;
+
+pub fn listing(workspace: &mut FileWorkspace, file: &[u8]) -> String {
+    let repaired = match repair_file(workspace, file) {
+        Ok(repaired) => repaired,
         Err(refusal) => return format!("refused {} {}\n", refusal.number, refusal.place),
     };
-    let cells = desk.masses.len();
+    let (repair, cells) = (repaired.repair, repaired.masses.len());
     let mut text = format!("outcome {} cells {} total {} change {}\n", repair.outcome, cells, repair.total, repair.change);
-    for (cell, (&mass, &target)) in desk.masses.iter().zip(&desk.field.targets).enumerate() {
+    for (cell, (&mass, &target)) in repaired.masses.iter().zip(repaired.targets).enumerate() {
         writeln!(text, "{} {} {}", cell, mass, i64::from(mass) - i64::from(target)).expect("text grows");
     }
     text
+}
+
+/// The operation that writes the listing to the front of a buffer and returns its length. A buffer that may be too short counts under 3.
+pub fn report(workspace: &mut FileWorkspace, file: &[u8], buffer: &mut [u8]) -> Result<usize, Refusal> {
+    if buffer.len() < MAX_TEXT {
+        return refuse(3);
+    }
+    let text = listing(workspace, file);
+    buffer[..text.len()].copy_from_slice(text.as_bytes());
+    Ok(text.len())
 }

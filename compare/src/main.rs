@@ -1,21 +1,33 @@
-//! The comparison program: holds the proved library, through its calls from C, and the program to the second implementation in this
+//! The comparison program: compares the proved library, through its calls from C, and the program with the second implementation in this
 //! package. Usage: `compare PROGRAM [SCALE]`; PROGRAM is the path of the program, SCALE multiplies the numbers of inputs (in percent,
-//! 100 if not given). Exits with status 0 only if nothing differs.
+//! 100 if not given). Exits with status 0 only if nothing differs and every refusal and outcome that a call can give has occurred in its
+//! part; with a small SCALE that may fail.
 
 use compare::random::Random;
 use compare::tally::Tally;
 use compare::{check_calls, check_examples, check_files, check_published, check_run};
 use std::path::Path;
-use std::time::Instant;
 
 const SEED: u64 = 20190525;
 
-/// Prints what a part has done.
-fn report(part: &str, tally: &mut Tally, started: Instant) {
-    println!("{part}: by number returned, from 0: {:?}", tally.numbers);
-    println!("{part}: {} inputs and {} differences so far, {:.1} s", tally.inputs, tally.differences, started.elapsed().as_secs_f64());
-    tally.numbers = [0; 17];
-}
+// The refusals that a call can give, after the section "Operations and what each turns down" of 01, in its order of checks. From C a list
+// that is too short for what a call gives counts under 3.
+const SPLIT: [usize; 6] = [1, 3, 5, 6, 7, 8];
+const OPEN: [usize; 3] = [3, 1, 13];
+const STEP: [usize; 10] = [1, 2, 3, 4, 5, 6, 7, 12, 13, 8];
+const IMPORT: [usize; 4] = [3, 9, 10, 11];
+const EXPORT: [usize; 3] = [3, 9, 11];
+// Reading gives 14, 15, 16, 1 and 2, Reconstruct 4 to 8, and writing 3 alone: lists read have the right lengths, and what Reconstruct
+// gives has an outcome up to 2 and masses that add up to M.
+const FILE: [usize; 11] = [14, 15, 16, 1, 2, 4, 5, 6, 7, 8, 3];
+// The program writes no answer file.
+const PROGRAM: [usize; 10] = [14, 15, 16, 1, 2, 4, 5, 6, 7, 8];
+// Those of 01's examples.
+const EXAMPLES: [usize; 3] = [4, 8, 11];
+// Steps by valid fields to any total.
+const PUBLISHED: [usize; 2] = [13, 8];
+
+const OUTCOMES: [usize; 3] = [0, 1, 2];
 
 fn main() {
     let arguments: Vec<String> = std::env::args().collect();
@@ -25,34 +37,32 @@ fn main() {
     };
     let percent: u64 = arguments.get(2).map_or(100, |text| text.parse().expect("SCALE is a whole number"));
     let scaled = |count: u64| count * percent / 100;
-    let (started, mut tally, mut random) = (Instant::now(), Tally::default(), Random::new(SEED));
+    let (mut tally, mut random) = (Tally::default(), Random::new(SEED));
 
     check_examples::examples(&mut tally);
-    report("examples", &mut tally, started);
+    tally.end_part("examples", &EXAMPLES, &OUTCOMES);
     check_calls::splits(&mut tally, &mut random, scaled(400_000));
-    report("split", &mut tally, started);
+    tally.end_part("split", &SPLIT, &[]);
     check_calls::opens(&mut tally, &mut random, scaled(60_000));
-    report("open", &mut tally, started);
+    tally.end_part("open", &OPEN, &[]);
     check_calls::steps(&mut tally, &mut random, scaled(400_000));
-    report("step", &mut tally, started);
+    tally.end_part("step", &STEP, &OUTCOMES);
     check_calls::imports(&mut tally, &mut random, scaled(1_000_000));
-    report("import", &mut tally, started);
+    tally.end_part("import", &IMPORT, &[]);
     check_calls::exports(&mut tally, &mut random, scaled(200_000));
-    report("export", &mut tally, started);
+    tally.end_part("export", &EXPORT, &[]);
     check_files::files(&mut tally, &mut random, scaled(150_000));
-    report("files", &mut tally, started);
+    tally.end_part("file", &FILE, &OUTCOMES);
     check_files::listings(&mut tally, &mut random, Path::new(program), scaled(4_000));
-    report("listings", &mut tally, started);
+    tally.end_part("program", &PROGRAM, &OUTCOMES);
     for (cells, steps) in [(24, check_run::FOUR_YEARS), (512, 10_000)] {
-        let seen = check_run::run(&mut tally, &mut random, cells, scaled(steps));
-        println!("run of {cells} cells: {seen:?}");
+        check_run::run(&mut tally, &mut random, cells, scaled(steps));
+        tally.end_part(&format!("run of {cells} cells"), &STEP, &OUTCOMES);
     }
-    report("runs", &mut tally, started);
     check_published::published(&mut tally, &mut random, scaled(100_000));
-    report("published", &mut tally, started);
+    tally.end_part("published", &PUBLISHED, &OUTCOMES);
 
-    println!("{}", tally.line());
-    if tally.differences > 0 {
+    if !tally.passes() {
         std::process::exit(1);
     }
 }

@@ -1,9 +1,8 @@
 //! Split, Reconstruct, Open and Step with all that they turn down, after the section "Operations and what each turns down" of 01. Checks
-//! stand in the paper's order. Values go to a lent list as in the calls from C; a list too short for them counts under 3. Written from 01
-//! alone; shares no code with the library.
+//! stand in the paper's order. Written from 01 alone; shares no code with the library.
 
 use crate::split::{share_out, Item};
-use crate::tree::{broken_node, repair, sum, Desk, Lists, Repair};
+use crate::tree::{broken_node, repair, sum, Lists, Repair, Workspace};
 
 pub const MAX_CELLS: usize = 512;
 pub const MAX_NODES: usize = 1024;
@@ -23,14 +22,6 @@ pub fn refuse<T>(number: u32) -> Result<T, Refusal> {
 
 pub fn refuse_at<T>(number: u32, place: usize) -> Result<T, Refusal> {
     Err(Refusal { number, place: place as u32 })
-}
-
-/// The value that a call from C returns: the number in the low 32 bits, the place in the high 32.
-pub fn returned(result: Result<(), Refusal>) -> u64 {
-    match result {
-        Ok(()) => 0,
-        Err(refusal) => u64::from(refusal.number) | u64::from(refusal.place) << 32,
-    }
 }
 
 /// A sum that no list of 64-bit numbers can overflow.
@@ -68,7 +59,7 @@ pub fn split(targets: &[i64], lows: &[i64], highs: &[i64], weights: &[i64], tota
 }
 
 /// Checks 1 and 2 of Reconstruct and Step.
-fn check_counts(lists: &Lists) -> Result<(), Refusal> {
+pub fn check_counts(lists: &Lists) -> Result<(), Refusal> {
     let (cells, nodes) = (lists.targets.len(), lists.parents.len());
     if cells == 0 || cells > MAX_CELLS {
         return refuse(1);
@@ -90,9 +81,9 @@ fn check_lengths(lists: &Lists, masses: usize, scratch: usize) -> Result<(), Ref
 }
 
 /// Checks 4 to 7.
-fn check_field(desk: &mut Desk, lists: &Lists) -> Result<(), Refusal> {
+fn check_field(workspace: &mut Workspace, lists: &Lists) -> Result<(), Refusal> {
     let cells = lists.targets.len();
-    if let Some(node) = broken_node(desk, cells, lists.parents) {
+    if let Some(node) = broken_node(workspace, cells, lists.parents) {
         return refuse_at(4, node);
     }
     let crossed = |cell: usize| {
@@ -120,45 +111,45 @@ fn check_total(lists: &Lists, total: u32) -> Result<(), Refusal> {
     Ok(())
 }
 
-pub fn reconstruct(desk: &mut Desk, lists: &Lists, total: u32, masses: &mut [u32], scratch: &mut [i64]) -> Result<Repair, Refusal> {
+pub fn reconstruct(
+    workspace: &mut Workspace,
+    lists: &Lists,
+    total: u32,
+    masses: &mut [u32],
+    scratch: &mut [i64],
+) -> Result<Repair, Refusal> {
     check_counts(lists)?;
     check_lengths(lists, masses.len(), scratch.len())?;
-    check_field(desk, lists)?;
+    check_field(workspace, lists)?;
     check_total(lists, total)?;
-    let repair = repair(desk, lists, total, masses);
+    let repair = repair(workspace, lists, total, masses);
     scratch[..6 * lists.parents.len()].fill(0);
     Ok(repair)
 }
 
-pub fn open(kept: &[u32], answer: &mut [u64]) -> Result<(), Refusal> {
-    if answer.is_empty() {
-        return refuse(3);
-    }
+/// Returns the total.
+pub fn open(kept: &[u32]) -> Result<u32, Refusal> {
     if kept.is_empty() || kept.len() > MAX_CELLS {
         return refuse(1);
     }
-    if sum(kept) > LIMIT {
+    let total = sum(kept);
+    if total > LIMIT {
         return refuse(13);
     }
-    answer[0] = sum(kept);
-    Ok(())
+    Ok(total as u32)
 }
 
 pub fn step(
-    desk: &mut Desk,
+    workspace: &mut Workspace,
     total: u32,
     kept: &mut [u32],
     source: i32,
     lists: &Lists,
     scratch: &mut [i64],
-    answer: &mut [u64],
-) -> Result<(), Refusal> {
+) -> Result<Repair, Refusal> {
     check_counts(lists)?;
     check_lengths(lists, kept.len(), scratch.len())?;
-    if answer.len() < 3 {
-        return refuse(3);
-    }
-    check_field(desk, lists)?;
+    check_field(workspace, lists)?;
     if sum(kept) != u64::from(total) {
         return refuse(12);
     }
@@ -167,10 +158,7 @@ pub fn step(
         return refuse(13);
     }
     check_total(lists, new_total as u32)?;
-    let repair = repair(desk, lists, new_total as u32, kept);
+    let repair = repair(workspace, lists, new_total as u32, kept);
     scratch[..6 * lists.parents.len()].fill(0);
-    answer[0] = u64::from(repair.outcome);
-    answer[1] = u64::from(repair.total);
-    answer[2] = repair.change;
-    Ok(())
+    Ok(repair)
 }

@@ -135,8 +135,8 @@ fn safe_highs(random: &mut Random, cells: usize) -> Vec<u32> {
         3 => even,
         4 => return partition(random, LIMIT as u32, cells),
         _ => {
-            let giant = random.index(cells);
-            return (0..cells).map(|cell| if cell == giant { LIMIT as u32 } else { 0 }).collect();
+            let only = random.index(cells);
+            return (0..cells).map(|cell| if cell == only { LIMIT as u32 } else { 0 }).collect();
         }
     };
     (0..cells).map(|_| random.below(most + 1) as u32).collect()

@@ -15,6 +15,21 @@ pub struct Lists<'a> {
     pub parents: &'a [u32],
 }
 
+impl<'a> Lists<'a> {
+    /// The lists of the first cells and nodes.
+    pub fn first(&self, cells: usize, nodes: usize) -> Lists<'a> {
+        Lists {
+            targets: &self.targets[..cells],
+            lows: &self.lows[..cells],
+            highs: &self.highs[..cells],
+            safe_lows: &self.safe_lows[..cells],
+            safe_highs: &self.safe_highs[..cells],
+            weights: &self.weights[..cells],
+            parents: &self.parents[..nodes],
+        }
+    }
+}
+
 /// A field with its own lists.
 #[derive(Clone, Default, Debug, PartialEq)]
 pub struct Field {
@@ -28,6 +43,20 @@ pub struct Field {
 }
 
 impl Field {
+    /// Lists of one value, to be written to.
+    pub fn filled(cells: usize, nodes: usize, value: u32) -> Field {
+        let list = || vec![value; cells];
+        Field {
+            targets: vec![value as i32; cells],
+            lows: list(),
+            highs: list(),
+            safe_lows: list(),
+            safe_highs: list(),
+            weights: list(),
+            parents: vec![value; nodes],
+        }
+    }
+
     pub fn lists(&self) -> Lists<'_> {
         Lists {
             targets: &self.targets,
@@ -51,12 +80,12 @@ pub struct Repair {
 
 /// Working space that is used again from call to call.
 #[derive(Default)]
-pub struct Desk {
+pub struct Workspace {
     named: Vec<bool>,
     nodes: Vec<Item>,
     first_child: Vec<u32>,
     next_sibling: Vec<u32>,
-    family: Vec<Item>,
+    children: Vec<Item>,
 }
 
 const NONE: u32 = u32::MAX;
@@ -66,20 +95,20 @@ pub fn sum(list: &[u32]) -> u64 {
 }
 
 /// The smallest node that breaks a rule of the tree.
-pub fn broken_node(desk: &mut Desk, cells: usize, parents: &[u32]) -> Option<usize> {
+pub fn broken_node(workspace: &mut Workspace, cells: usize, parents: &[u32]) -> Option<usize> {
     let nodes = parents.len();
-    desk.named.clear();
-    desk.named.resize(nodes, false);
+    workspace.named.clear();
+    workspace.named.resize(nodes, false);
     for (node, &parent) in parents.iter().enumerate() {
         let parent = parent as usize;
         if parent < nodes && parent != node {
-            desk.named[parent] = true;
+            workspace.named[parent] = true;
         }
     }
     (0..nodes).find(|&node| {
         let parent = parents[node] as usize;
         let parent_fits = if node == nodes - 1 { parent == node } else { parent > node && parent >= cells && parent < nodes };
-        let has_child = node < cells || desk.named[node];
+        let has_child = node < cells || workspace.named[node];
         !(parent_fits && has_child)
     })
 }
@@ -104,22 +133,22 @@ fn in_force<'a>(lists: &Lists<'a>, outcome: u32) -> (&'a [u32], &'a [u32]) {
     }
 }
 
-/// Fills `desk.nodes` with the sums over each node's cells. Parents have larger numbers, so one pass in rising order is enough.
-fn add_up_nodes(desk: &mut Desk, lists: &Lists, outcome: u32) {
+/// Fills `workspace.nodes` with the sums over each node's cells. Parents have larger numbers, so one pass in rising order is enough.
+fn add_up_nodes(workspace: &mut Workspace, lists: &Lists, outcome: u32) {
     let (lows, highs) = in_force(lists, outcome);
     let (cells, nodes) = (lists.targets.len(), lists.parents.len());
-    desk.nodes.clear();
-    desk.nodes.extend((0..cells).map(|cell| Item {
+    workspace.nodes.clear();
+    workspace.nodes.extend((0..cells).map(|cell| Item {
         target: i64::from(lists.targets[cell]),
         low: i64::from(lows[cell]),
         high: i64::from(highs[cell]),
         weight: i64::from(lists.weights[cell]),
         mass: 0,
     }));
-    desk.nodes.resize(nodes, Item::default());
+    workspace.nodes.resize(nodes, Item::default());
     for node in 0..nodes - 1 {
-        let item = desk.nodes[node];
-        let parent = &mut desk.nodes[lists.parents[node] as usize];
+        let item = workspace.nodes[node];
+        let parent = &mut workspace.nodes[lists.parents[node] as usize];
         parent.target += item.target;
         parent.low += item.low;
         parent.high += item.high;
@@ -127,48 +156,49 @@ fn add_up_nodes(desk: &mut Desk, lists: &Lists, outcome: u32) {
     }
 }
 
-/// Links each node's children in rising order: going down through the numbers, each one is put in front of its elder siblings.
-fn link_children(desk: &mut Desk, parents: &[u32]) {
+/// Links each node's children in rising order: going down through the numbers, each one is put in front of its siblings with larger
+/// numbers.
+fn link_children(workspace: &mut Workspace, parents: &[u32]) {
     let nodes = parents.len();
-    desk.first_child.clear();
-    desk.first_child.resize(nodes, NONE);
-    desk.next_sibling.clear();
-    desk.next_sibling.resize(nodes, NONE);
+    workspace.first_child.clear();
+    workspace.first_child.resize(nodes, NONE);
+    workspace.next_sibling.clear();
+    workspace.next_sibling.resize(nodes, NONE);
     for node in (0..nodes - 1).rev() {
         let parent = parents[node] as usize;
-        desk.next_sibling[node] = desk.first_child[parent];
-        desk.first_child[parent] = node as u32;
+        workspace.next_sibling[node] = workspace.first_child[parent];
+        workspace.first_child[parent] = node as u32;
     }
 }
 
 /// Splits a node's mass among its children.
-fn split_node(desk: &mut Desk, node: usize) {
-    desk.family.clear();
-    let mut child = desk.first_child[node];
+fn split_node(workspace: &mut Workspace, node: usize) {
+    workspace.children.clear();
+    let mut child = workspace.first_child[node];
     while child != NONE {
-        desk.family.push(desk.nodes[child as usize]);
-        child = desk.next_sibling[child as usize];
+        workspace.children.push(workspace.nodes[child as usize]);
+        child = workspace.next_sibling[child as usize];
     }
-    share_out(&mut desk.family, desk.nodes[node].mass);
-    let mut child = desk.first_child[node];
-    for item in &desk.family {
-        desk.nodes[child as usize].mass = item.mass;
-        child = desk.next_sibling[child as usize];
+    share_out(&mut workspace.children, workspace.nodes[node].mass);
+    let mut child = workspace.first_child[node];
+    for item in &workspace.children {
+        workspace.nodes[child as usize].mass = item.mass;
+        child = workspace.next_sibling[child as usize];
     }
 }
 
 /// The whole tree, for lists and a total that have passed every check. Writes the masses of the cells.
-pub fn repair(desk: &mut Desk, lists: &Lists, total: u32, masses: &mut [u32]) -> Repair {
+pub fn repair(workspace: &mut Workspace, lists: &Lists, total: u32, masses: &mut [u32]) -> Repair {
     let (cells, nodes) = (lists.targets.len(), lists.parents.len());
     let outcome = outcome(lists, total);
-    add_up_nodes(desk, lists, outcome);
-    link_children(desk, lists.parents);
-    desk.nodes[nodes - 1].mass = i64::from(total);
+    add_up_nodes(workspace, lists, outcome);
+    link_children(workspace, lists.parents);
+    workspace.nodes[nodes - 1].mass = i64::from(total);
     for node in (cells..nodes).rev() {
-        split_node(desk, node);
+        split_node(workspace, node);
     }
     let mut change = 0;
-    for (mass, item) in masses.iter_mut().zip(&desk.nodes[..cells]) {
+    for (mass, item) in masses.iter_mut().zip(&workspace.nodes[..cells]) {
         *mass = item.mass as u32;
         change += (item.mass - item.target).unsigned_abs();
     }

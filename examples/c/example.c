@@ -1,5 +1,5 @@
-/* Opens a kept field, steps it twice, once with a source that is refused, and repairs a field file.
- * Usage: example FIELD_FILE */
+/* Opens a kept field, steps it three times (the second step is refused), imports a cell's doubles, exports a mass, and repairs a field
+ * file. Usage: example FIELD_FILE. The status is 0 if the file was repaired, else 1. */
 #include <inttypes.h>
 #include <stdio.h>
 
@@ -8,7 +8,21 @@
 #define CELLS 4
 #define NODES 7
 
-static void step(uint64_t *total, uint32_t *kept, int32_t source) {
+/* Prints a refusal's number and place. */
+static int refused(uint64_t returned) {
+    printf(" refused %" PRIu32 " %" PRIu32 "\n", LEGZHURO_NUMBER(returned), LEGZHURO_PLACE(returned));
+    return 1;
+}
+
+static int open_field(const uint32_t *kept, uint64_t *total) {
+    printf("open:");
+    uint64_t returned = legzhuro_open(kept, CELLS, total, 1);
+    if (returned != 0) return refused(returned);
+    printf(" total %" PRIu64 "\n", *total);
+    return 0;
+}
+
+static int step(uint64_t *total, uint32_t *kept, int32_t source) {
     static const int32_t targets[CELLS] = {-2, 9, 4, 5};
     static const uint32_t lows[CELLS] = {0, 0, 0, 0}, highs[CELLS] = {8, 8, 8, 8};
     static const uint32_t safe_lows[CELLS] = {0, 0, 0, 0}, safe_highs[CELLS] = {10, 10, 10, 10};
@@ -16,49 +30,69 @@ static void step(uint64_t *total, uint32_t *kept, int32_t source) {
     static const uint32_t parents[NODES] = {4, 4, 5, 5, 6, 6, 6};
     static int64_t scratch[LEGZHURO_SCRATCH * NODES];
     uint64_t answer[3];
+
+    printf("step %" PRId32 ":", source);
     uint64_t returned =
         legzhuro_step((uint32_t)*total, kept, CELLS, source, targets, CELLS, lows, CELLS, highs, CELLS, safe_lows, CELLS, safe_highs, CELLS,
                       weights, CELLS, parents, NODES, scratch, LEGZHURO_SCRATCH * NODES, answer, 3);
-    if (returned != 0) {
-        printf("step %" PRId32 ": refused %" PRIu32 " %" PRIu32 "\n", source, LEGZHURO_NUMBER(returned), LEGZHURO_PLACE(returned));
-        return;
-    }
+    if (returned != 0) return refused(returned);
     *total = answer[1];
-    printf("step %" PRId32 ": outcome %" PRIu64 " total %" PRIu64 " change %" PRIu64 " masses", source, answer[0], answer[1], answer[2]);
+    printf(" outcome %" PRIu64 " total %" PRIu64 " change %" PRIu64 " masses", answer[0], answer[1], answer[2]);
     for (int i = 0; i < CELLS; i++) printf(" %" PRIu32, kept[i]);
     printf("\n");
+    return 0;
+}
+
+static int convert(void) {
+    int64_t units[5];
+    double value[1];
+
+    printf("import:");
+    uint64_t returned = legzhuro_import(2.5, -0.25, 7.75, 0.0, 10.0, 0, units, 5);
+    if (returned != 0) return refused(returned);
+    for (int i = 0; i < 5; i++) printf(" %" PRId64, units[i]);
+    printf("\nexport:");
+    returned = legzhuro_export(3, 1, value, 1);
+    if (returned != 0) return refused(returned);
+    printf(" %g\n", value[0]);
+    return 0;
+}
+
+/* A word of an answer file; blocks are numbered from 1, words from 0. */
+static uint32_t word(const uint8_t *file, uint32_t block, uint32_t index) {
+    const uint8_t *bytes = file + 512 * (block - 1) + 4 * index;
+    return bytes[0] | (uint32_t)bytes[1] << 8 | (uint32_t)bytes[2] << 16 | (uint32_t)bytes[3] << 24;
+}
+
+static int repair(FILE *in) {
+    static uint8_t file[LEGZHURO_MAX_FIELD_FILE + 1], answer[LEGZHURO_MAX_ANSWER_FILE]; /* a byte more, so that a longer file is refused */
+    size_t length = fread(file, 1, sizeof file, in);
+
+    printf("file:");
+    uint32_t number = legzhuro_reconstruct(file, length, answer, sizeof answer);
+    if (number != 0) return refused(number);
+    uint32_t cells = word(answer, 1, 2); /* block 1 has 512, cells, outcome, total, change; the masses follow, 125 to a block */
+    printf(" outcome %" PRIu32 " cells %" PRIu32 " masses", word(answer, 1, 3), cells);
+    for (uint32_t c = 0; c < cells; c++) printf(" %" PRIu32, word(answer, 2 + c / 125, 1 + c % 125));
+    printf("\n");
+    return 0;
 }
 
 int main(int argc, char **argv) {
-    static uint8_t file[LEGZHURO_MAX_FIELD_FILE + 1], answer_file[LEGZHURO_MAX_ANSWER_FILE];
     uint32_t kept[CELLS] = {1, 2, 3, 4};
-    uint64_t total[1];
+    uint64_t total;
 
-    uint64_t returned = legzhuro_open(kept, CELLS, total, 1);
-    if (returned != 0) return 1;
-    printf("opened: total %" PRIu64 "\n", total[0]);
-    step(total, kept, 6);
-    step(total, kept, 100);
-    step(total, kept, -9);
-
-    int64_t units[5];
-    double value[1];
-    returned = legzhuro_import(2.5, -0.25, 7.75, 0.0, 10.0, 0, units, 5);
-    printf("import: %" PRIu64 ":", returned);
-    for (int i = 0; i < 5; i++) printf(" %" PRId64, units[i]);
-    returned = legzhuro_export(3, 1, value, 1);
-    printf("\nexport: %" PRIu64 ": %g\n", returned, value[0]);
-
-    FILE *in = argc > 1 ? fopen(argv[1], "rb") : NULL;
-    if (in == NULL) return 1;
-    size_t length = fread(file, 1, sizeof file, in);
-    fclose(in);
-    uint32_t refused = legzhuro_reconstruct(file, length, answer_file, sizeof answer_file);
-    printf("file: %" PRIu32, refused);
-    for (int i = 0; i < CELLS; i++) { /* the masses are the payload of block 2 */
-        const uint8_t *word = answer_file + 512 + 4 + 4 * i;
-        printf(" %" PRIu32, word[0] | (uint32_t)word[1] << 8 | (uint32_t)word[2] << 16 | (uint32_t)word[3] << 24);
+    FILE *in = argc == 2 ? fopen(argv[1], "rb") : NULL;
+    if (in == NULL) {
+        fprintf(stderr, "usage: example FIELD_FILE, a file that can be read\n");
+        return 1;
     }
-    printf("\n");
-    return refused != 0;
+    if (open_field(kept, &total) != 0) return 1;
+    step(&total, kept, 6);
+    step(&total, kept, 100);
+    step(&total, kept, -9);
+    if (convert() != 0) return 1;
+    int status = repair(in);
+    fclose(in);
+    return status;
 }

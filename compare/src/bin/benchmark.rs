@@ -1,11 +1,12 @@
 //! Measures a step and the call on a field file at 8, 64 and 512 cells on flat, binary and chain trees: the proved library against the
-//! second implementation. Every number is the median over batches; both sides take turns, so that both meet the same weather.
+//! second implementation. Every number is the median over batches; both sides take turns, so that other load on the machine slows both
+//! alike.
 
 use compare::calls;
-use compare::files::{answer_file_length, reconstruct_file, write_field, FileDesk};
-use compare::operations::step;
+use compare::files::{answer_file_length, reconstruct_file, write_field, FileWorkspace};
+use compare::from_c::step;
 use compare::random::{binary, chain, flat, partition, Random};
-use compare::tree::{sum, Desk, Field};
+use compare::tree::{sum, Field, Workspace};
 use std::hint::black_box;
 use std::time::Instant;
 
@@ -69,21 +70,21 @@ fn print_line(call: &str, shape: &str, field: &Field, (library, second): (f64, f
 /// Steps with source 0: each one leads to the total again, so they are all accepted.
 fn measure_step(random: &mut Random, field: &Field, total: u32) -> (f64, f64) {
     let mut kept = partition(random, total, field.targets.len());
-    let (mut kept_too, lists, mut desk) = (kept.clone(), field.lists(), Desk::default());
+    let (mut kept_too, lists, mut workspace) = (kept.clone(), field.lists(), Workspace::default());
     let (mut scratch, mut answer) = (vec![0; 6 * field.parents.len()], [0; 3]);
     let (mut scratch_too, mut answer_too) = (scratch.clone(), answer);
     let mut library = || assert!(calls::step(total, black_box(&mut kept), 0, black_box(&lists), &mut scratch, &mut answer) == 0);
     let mut second =
-        || assert!(step(&mut desk, total, black_box(&mut kept_too), 0, black_box(&lists), &mut scratch_too, &mut answer_too).is_ok());
+        || assert!(step(&mut workspace, total, black_box(&mut kept_too), 0, black_box(&lists), &mut scratch_too, &mut answer_too).is_ok());
     measure(&mut library, &mut second)
 }
 
 fn measure_file(field: &Field, total: u32) -> (f64, f64) {
-    let (file, mut desk) = (write_field(field, total), FileDesk::default());
+    let (file, mut workspace) = (write_field(field, total), FileWorkspace::default());
     let mut answer = vec![0; answer_file_length(field.targets.len())];
     let mut answer_too = answer.clone();
     let mut library = || assert!(calls::reconstruct(black_box(&file), black_box(&mut answer)) == 0);
-    let mut second = || assert!(reconstruct_file(&mut desk, black_box(&file), black_box(&mut answer_too)).is_ok());
+    let mut second = || assert!(reconstruct_file(&mut workspace, black_box(&file), black_box(&mut answer_too)).is_ok());
     measure(&mut library, &mut second)
 }
 

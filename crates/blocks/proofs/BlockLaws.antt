@@ -21,7 +21,7 @@ use Rattle.numbers.proofs.ListLaws.{length-listTo, getD-listTo}
 use Rattle.numbers.proofs.PartLaws.{length-part, written-seam}
 use Rattle.numbers.proofs.CheckLaws.{every-from, decides-for, decides-then, alone}
 use Rattle.blocks.specs.Words.{wordAt, wordBytes, wordsBytes, Bytes, Words}
-use Rattle.blocks.specs.Blocks.{firstCheck, secondCheck, headWord, blockBytes, hasBlock, blockOf, payloadOf, wordOf, payloadWord, isSound, checkSound, checkSpare, checkBlock, Sound, SpareZero, blockRules, IsBlock, payloadPlace, PayloadContract}
+use Rattle.blocks.specs.Blocks.{firstCheck, secondCheck, headWord, blockBytes, hasBlock, blockOf, payloadOf, wordOf, payloadWord, isSound, checkSound, checkSpare, checkBlock, SoundBlock, SpareZero, blockRules, IsBlock, payloadPlace, PayloadContract}
 use Rattle.blocks.proofs.WordLaws.{length-wordsBytes, wordsBytes-next, wordsBytes-ext, wordAt-seam, wordAt-back, wordAt-small, words-back, wordAt-part, bytes-part, bytes-append, wordBytes-bytes, wordsBytes-bytes, words-listTo}
 
 -- ---- whether a file has a block
@@ -190,7 +190,7 @@ written-second b ws =
     sym (append-assoc (wordsBytes 126 w) (wordBytes (firstCheck w)) (wordBytes (secondCheck w))) in
     ap (λ x. wordAt x 508) e ∙ wordAt-seam p [] 508 (secondCheck w) n (secondCheck-small w)
 
-pub written-sound : (b : ℕ) (ws : List ℕ) → b < 2 ^ 32 → Words ws → Sound (blockBytes b ws) b
+pub written-sound : (b : ℕ) (ws : List ℕ) → b < 2 ^ 32 → Words ws → SoundBlock (blockBytes b ws) b
 written-sound b ws hb hw =
     let agree : ((k : ℕ) → k < 126 → headWord b ws k ≡ wordOf (blockBytes b ws) k) = λ k l. sym (written-word b ws k hb hw l) in
     record {
@@ -201,7 +201,7 @@ written-sound b ws hb hw =
 
 -- ---- what the checks mean
 
-pub sound-decides : (file : List ℕ) (b : ℕ) → Decides (checkSound file b) (ruleFor 15 b (Sound (blockOf file b) b))
+pub sound-decides : (file : List ℕ) (b : ℕ) → Decides (checkSound file b) (ruleFor 15 b (SoundBlock (blockOf file b) b))
 unfolding checkSound isSound
 sound-decides file b =
     let l : List ℕ = blockOf file b in
@@ -223,9 +223,9 @@ spare-decides file used b h =
 pub block-decides : (file : List ℕ) (used : ℕ → ℕ) (b : ℕ) → used b ≤ 125 → DecidesAll (checkBlock file used b) (blockRules file used b)
 unfolding checkBlock
 block-decides file used b h =
-    decides-then (checkSound file b) (checkSpare file (used b) b) (ruleFor 15 b (Sound (blockOf file b) b)) (ruleFor 16 b (SpareZero file (used b) b) ∷ []) (sound-decides file b) (alone (checkSpare file (used b) b) (ruleFor 16 b (SpareZero file (used b) b)) (spare-decides file (used b) b h))
+    decides-then (checkSound file b) (checkSpare file (used b) b) (ruleFor 15 b (SoundBlock (blockOf file b) b)) (ruleFor 16 b (SpareZero file (used b) b) ∷ []) (sound-decides file b) (alone (checkSpare file (used b) b) (ruleFor 16 b (SpareZero file (used b) b)) (spare-decides file (used b) b h))
 
-pub block-fits : (file : List ℕ) (used : ℕ → ℕ) (b : ℕ) → used b ≤ 125 → (checkBlock file used b ≡ Pass) ↔ (Sound (blockOf file b) b × SpareZero file (used b) b)
+pub block-fits : (file : List ℕ) (used : ℕ → ℕ) (b : ℕ) → used b ≤ 125 → (checkBlock file used b ≡ Pass) ↔ (SoundBlock (blockOf file b) b × SpareZero file (used b) b)
 unfolding Holds
 block-fits file used b u =
     let d = block-decides file used b u in
@@ -238,7 +238,7 @@ pub block-passes : (file : List ℕ) (used : ℕ → ℕ) (b : ℕ) → 0 < b �
 block-passes file used b z s h u i =
     let ws : List ℕ = i .words in
     block-fits file used b u .1 (
-      subst (λ l. Sound l b) (sym (i .same)) (written-sound b ws s (i .fit)),
+      subst (λ l. SoundBlock l b) (sym (i .same)) (written-sound b ws s (i .fit)),
       λ k j l.
           block-word file b k z h l
           ∙ ap (λ x. wordOf x (suc k)) (i .same)
@@ -248,7 +248,7 @@ block-passes file used b z s h u i =
     )
 
 -- a sound block is the bytes of any words that it holds
-pub sound-block : (file : List ℕ) (b : ℕ) (ws : List ℕ) → Bytes file → 0 < b → 512 * b ≤ length file → Sound (blockOf file b) b → ((j : ℕ) → j < 125 → payloadWord file b j ≡ at ws j) → blockOf file b ≡ blockBytes b ws
+pub sound-block : (file : List ℕ) (b : ℕ) (ws : List ℕ) → Bytes file → 0 < b → 512 * b ≤ length file → SoundBlock (blockOf file b) b → ((j : ℕ) → j < 125 → payloadWord file b j ≡ at ws j) → blockOf file b ≡ blockBytes b ws
 unfolding blockBytes wordOf
 sound-block file b ws y z h s r =
     let l : List ℕ = blockOf file b in
@@ -283,7 +283,7 @@ module _ (file : List ℕ) (used b : ℕ) (y : Bytes file) (z : 0 < b) (h : 512 
       go (yes m) = sym (getD-listTo used (payloadWord file b) j 0 m)
       go (no m) = t j (omega arith) l ∙ sym (List·getD-eq-default own 0 {n = j} (omega (arith, length-listTo used (payloadWord file b))))
 
-  pub own-same : Sound (blockOf file b) b → SpareZero file used b → blockOf file b ≡ blockBytes b own
+  pub own-same : SoundBlock (blockOf file b) b → SpareZero file used b → blockOf file b ≡ blockBytes b own
   own-same s t = sound-block file b own y z h s (own-word t)
 
 pub block-means : (file : List ℕ) (used : ℕ → ℕ) (b : ℕ) → Bytes file → 0 < b → b < 2 ^ 32 → 512 * b ≤ length file → used b ≤ 125 → (checkBlock file used b ≡ Pass) ↔ IsBlock (blockOf file b) (used b) b

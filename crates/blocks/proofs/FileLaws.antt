@@ -16,7 +16,7 @@ use Rattle.numbers.proofs.ListLaws.{length-listTo, getD-listTo}
 use Rattle.numbers.proofs.PartLaws.{take-min, drop-take, written-on}
 use Rattle.numbers.proofs.CheckLaws.{each-passes}
 use Rattle.blocks.specs.Words.{wordAt, Bytes, Words}
-use Rattle.blocks.specs.Blocks.{blockBytes, fileBytes, blockOf, payloadOf, wordOf, payloadWord, checkBlock, Sound, SpareZero, IsFile}
+use Rattle.blocks.specs.Blocks.{blockBytes, fileBytes, blockOf, payloadOf, wordOf, payloadWord, checkBlock, SoundBlock, SpareZero, IsFile}
 use Rattle.blocks.proofs.WordLaws.{bytes-append}
 use Rattle.blocks.proofs.BlockLaws.{hasBlock-in, block-word, headWord-suc, length-blockBytes, blockBytes-bytes, written-word, block-fits, block-passes, own-small, own-same}
 
@@ -148,7 +148,7 @@ module _ (file : List ℕ) (used : ℕ → ℕ) (k : ℕ) (s : k < 2 ^ 32) (u : 
     words-pass = ap (λ x. checkBlock x used b) (i .same) ∙ file-passes (i .words) used k b z l (omega arith) (u b) (i .count b z l) (i .fit b z l)
 
   module _ (y : Bytes file) (e : length file ≡ 512 * k) where
-    own-file : ((b : ℕ) → 0 < b → b ≤ k → Sound (blockOf file b) b × SpareZero file (used b) b) → IsFile file used k
+    own-file : ((b : ℕ) → 0 < b → b ≤ k → SoundBlock (blockOf file b) b × SpareZero file (used b) b) → IsFile file used k
     own-file h =
         record {
           words = λ b. listTo (used b) (payloadWord file b);
@@ -162,7 +162,7 @@ module _ (file : List ℕ) (used : ℕ → ℕ) (k : ℕ) (s : k < 2 ^ 32) (u : 
     file-means = (λ q. own-file (λ b z l. block-fits file used b (u b) .0 (q b z l)), words-pass)
 
     -- by what the checks mean
-    pub file-fits : ((b : ℕ) → 0 < b → b ≤ k → Sound (blockOf file b) b × SpareZero file (used b) b) ↔ IsFile file used k
+    pub file-fits : ((b : ℕ) → 0 < b → b ≤ k → SoundBlock (blockOf file b) b × SpareZero file (used b) b) ↔ IsFile file used k
     file-fits = (own-file, λ i b z l. block-fits file used b (u b) .0 (words-pass i b z l))
 
     -- by the verdict on the blocks in turn

@@ -77,7 +77,7 @@ checkBlock file used b = both (checkSound file b) (checkSpare file (used b) b)
 
 -- ---- what the checks mean
 
-pub record Sound (block : List ℕ) (b : ℕ) : Type 0 where
+pub record SoundBlock (block : List ℕ) (b : ℕ) : Type 0 where
   pub number : wordOf block 0 ≡ b
   pub first : wordOf block 126 ≡ firstCheck (wordOf block)
   pub second : wordOf block 127 ≡ secondCheck (wordOf block)
@@ -86,7 +86,7 @@ abbrev pub SpareZero : List ℕ → ℕ → ℕ → Type 0
 SpareZero file used b = (k : ℕ) → used ≤ k → k < 125 → payloadWord file b k ≡ 0
 
 abbrev pub blockRules : List ℕ → (ℕ → ℕ) → ℕ → List Rule
-blockRules file used b = ruleFor 15 b (Sound (blockOf file b) b) ∷ ruleFor 16 b (SpareZero file (used b) b) ∷ []
+blockRules file used b = ruleFor 15 b (SoundBlock (blockOf file b) b) ∷ ruleFor 16 b (SpareZero file (used b) b) ∷ []
 
 -- a block is the bytes of some words at its number
 pub record IsBlock (block : List ℕ) (used b : ℕ) : Type 0 where

@@ -6,10 +6,10 @@ ghost use Rattle.numbers.specs.Lists.{listTo, written};
 ghost use Rattle.blocks.specs.Words.{wordSigned};
 ghost use Rattle.blocks.specs.Blocks.{blockBytes};
 ghost use Rattle.blocks.specs.Tables.{tableBlocks, tableUsed, TableFits, tableWord, HasTable, listBlock};
-use crate::inner::fill_block;
-use crate::inner::payload_word;
-use crate::inner::word_signed;
-use numbers::inner::least;
+use crate::block::fill_block;
+use crate::block::payload_word;
+use crate::words::word_signed;
+use numbers::arith::least;
 
 // A layout: how many words a record has, and how many records a block has.
 pub struct Table {
@@ -77,7 +77,9 @@ pub fn read_signed(file: &[u8], table: Table, from: usize, j: usize, n: usize, l
 // The k-th block of the first n numbers of a list, 125 to a block, the first of them being block `from` of the file.
 pub fn put_list_block(buffer: &mut [u8], from: usize, list: &[u32], n: usize, k: usize)
     requires { ⌜ (0 < from) × (from + k < 2 ^ 32) × (125 * k < n) × (n ≤ length (now list)) × (512 * (from + k) ≤ length (now buffer)) ⌝ }
-    ensures { λ _. ⌜ now (buffer .exit) ≡ written (now (buffer .entry)) (512 * (from + k - 1)) (blockBytes (from + k) (listBlock n (now (list .entry)) k)) ⌝ }
+    ensures { λ _.
+        ⌜ now (buffer .exit) ≡ written (now (buffer .entry)) (512 * (from + k - 1))
+        (blockBytes (from + k) (listBlock n (now (list .entry)) k)) ⌝ }
 {
     let first = 125 * k;
     let last = least(first + 125, n);

@@ -3,10 +3,10 @@ ghost use mathlib.Core.Path.{_≡_};
 ghost use Prim.Native.Nat.{_*_, _^_, _≤_, _<_};
 ghost use lib.IntN.{pos};
 ghost use Rattle.numbers.specs.Roundings.{signed};
-ghost use Rattle.conversion.specs.Forms.{fraction, product, inTarget, inBound, targetField, lowField, highField};
-use conversion::BoundField;
-use conversion::Product;
-use conversion::TargetField;
+ghost use Rattle.doubles_spec.specs.Forms.{fraction, product, inTarget, inBound, targetField, lowField, highField};
+use doubles_spec::BoundField;
+use doubles_spec::Product;
+use doubles_spec::TargetField;
 
 // ±digits × 2^place ÷ 2^1075, for digits of 53 bits.
 pub fn normal(negative: bool, digits: u64, place: u64) -> Product
@@ -132,7 +132,7 @@ pub fn in_target(negative: bool, q: u64) -> TargetField
     }
 }
 
-// To nearest, ties to even.
+// Rounded to nearest, ties to even.
 pub fn target_field(x: f64, k: u32) -> TargetField
     requires { ⌜ k ≤ 30 ⌝ }
     ensures { λ r. ⌜ r ≡ targetField k x ⌝ }
@@ -158,7 +158,7 @@ pub fn target_field(x: f64, k: u32) -> TargetField
     }
 }
 
-// Up.
+// Rounded up.
 pub fn low_field(x: f64, k: u32) -> BoundField
     requires { ⌜ k ≤ 30 ⌝ }
     ensures { λ r. ⌜ r ≡ lowField k x ⌝ }
@@ -187,7 +187,7 @@ pub fn low_field(x: f64, k: u32) -> BoundField
     }
 }
 
-// Down.
+// Rounded down.
 pub fn high_field(x: f64, k: u32) -> BoundField
     requires { ⌜ k ≤ 30 ⌝ }
     ensures { λ r. ⌜ r ≡ highField k x ⌝ }

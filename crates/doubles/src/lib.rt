@@ -1,15 +1,15 @@
-// The operations Import and Export. Public: `import`, `export`; the work below them is in a module of its own, for this crate alone.
-// Relies on `conversion` and `numbers`.
+// The operations Import and Export. Public: `import`, `export`; the work below them is in a module of its own, for this crate alone. Relies
+// on `doubles_spec` and `numbers`.
 ghost use mathlib.Core.Path.{_≡_};
-ghost use Rattle.conversion.specs.declared.Imported.the-variants.{Refused};
-ghost use Rattle.conversion.specs.Import.{ImportContract};
-ghost use Rattle.conversion.specs.Export.{ExportContract};
-use conversion::BoundField;
-use conversion::CellDoubles;
-use conversion::CellUnits;
-use conversion::Exported;
-use conversion::Imported;
-use conversion::TargetField;
+ghost use Rattle.doubles_spec.specs.declared.Imported.the-variants.{Refused};
+ghost use Rattle.doubles_spec.specs.Import.{ImportContract};
+ghost use Rattle.doubles_spec.specs.Export.{ExportContract};
+use doubles_spec::BoundField;
+use doubles_spec::CellDoubles;
+use doubles_spec::CellUnits;
+use doubles_spec::Exported;
+use doubles_spec::Imported;
+use doubles_spec::TargetField;
 
 mod fields;
 mod power;

@@ -1,25 +1,19 @@
 -- Laws for the reader in code: checks in two lists, a block's check by the words it uses, the lists as they are read, and
 -- the contract by the verdict. Assumes nothing.
-use mathlib.Core.Path.{_≡_, refl, _∙_, ap}
-use mathlib.Core.List.{List, [], _∷_, _++_}
+use mathlib.Core.Path.{_≡_, _∙_, ap}
+use mathlib.Core.List.{List}
 use Prim.Native.Nat.{ℕ, _+_}
 use lib.IntN.{ℤ}
 use Rattle.numbers.specs.declared.Checked.{Checked}
 use Rattle.numbers.specs.Lists.{listTo, written}
-use Rattle.numbers.specs.Checks.{answered, after, both, first}
-use Rattle.numbers.proofs.CheckLaws.{both-assoc}
+use Rattle.numbers.specs.Checks.{answered, after, both}
 use Rattle.blocks.specs.Words.{wordSigned}
 use Rattle.blocks.specs.Blocks.{checkSound, checkSpare, checkBlock}
 use Rattle.blocks.specs.Tables.{tableWord, listTable}
-use Rattle.qlt.specs.Field.{Lists, lists}
-use Rattle.formats.specs.declared.FieldRead.{FieldRead}
-use Rattle.formats.specs.FieldFile.{cellBlocks, cellWord}
-use Rattle.formats.specs.ReadField.{fileCells, fileNodes, readVerdict, sizesOf, readTells, listsRead, ReadContract}
-
--- checks in two lists, one after the other
-pub first-append : (vs ws : List Checked) → both (first vs) (first ws) ≡ first (vs ++ ws)
-first-append [] ws = refl
-first-append (v ∷ vs) ws = both-assoc v (first vs) (first ws) ∙ ap (both v) (first-append vs ws)
+use Rattle.qlt_spec.specs.Field.{Lists, lists}
+use Rattle.files_spec.specs.declared.FieldRead.{FieldRead}
+use Rattle.files_spec.specs.FieldFile.{cellBlocks, cellWord}
+use Rattle.files_spec.specs.ReadField.{fileCells, fileNodes, readVerdict, sizesOf, readTells, listsRead, ReadContract}
 
 -- ---- a block's check goes by the number of words that the block uses
 pub used-here : (file : List ℕ) (used : ℕ → ℕ) (k b : ℕ) → k ≡ used b → checkBlock file (λ i. k) b ≡ checkBlock file used b

@@ -1,11 +1,11 @@
 // The operation Read a field file. Public: `read_field`; the checks and the reading of the lists are in modules of their own, for this
-// crate alone. Relies on `formats`, `blocks`, `checks`, `qlt` and `numbers`.
-ghost use Rattle.qlt.specs.Field.{lists};
-ghost use Rattle.formats.specs.ReadField.{ReadContract};
-use formats::FieldRead;
+// crate alone. Relies on `files_spec`, `blocks`, `field_checks`, `qlt_spec` and `numbers`.
+ghost use Rattle.qlt_spec.specs.Field.{lists};
+ghost use Rattle.files_spec.specs.ReadField.{ReadContract};
+use files_spec::FieldRead;
 
-mod content;
-mod verdicts;
+mod verdict;
+mod work;
 
 // Reads a field file into seven lists, which may be longer than the field. A refused call writes nothing.
 pub fn read_field(
@@ -18,9 +18,15 @@ pub fn read_field(
     weights: &mut [u32],
     parents: &mut [u32],
 ) -> FieldRead
-    ensures { λ r. ⌜ ReadContract (now (file .entry)) (lists (now (targets .entry)) (now (lows .entry)) (now (highs .entry)) (now («safe_lows» .entry)) (now («safe_highs» .entry)) (now (weights .entry)) (now (parents .entry))) r (lists (now (targets .exit)) (now (lows .exit)) (now (highs .exit)) (now («safe_lows» .exit)) (now («safe_highs» .exit)) (now (weights .exit)) (now (parents .exit))) ⌝ }
+    ensures { λ r.
+        ⌜ ReadContract (now (file .entry))
+        (lists (now (targets .entry)) (now (lows .entry)) (now (highs .entry)) (now («safe_lows» .entry)) (now («safe_highs» .entry))
+        (now (weights .entry)) (now (parents .entry)))
+        r
+        (lists (now (targets .exit)) (now (lows .exit)) (now (highs .exit)) (now («safe_lows» .exit)) (now («safe_highs» .exit))
+        (now (weights .exit)) (now (parents .exit))) ⌝ }
 {
-    let head = verdicts::head_verdict(
+    let head = verdict::head_verdict(
         file,
         targets,
         lows,
@@ -30,8 +36,8 @@ pub fn read_field(
         weights,
         parents,
     );
-    let verdict = verdicts::with_later(head, file);
-    content::read_by(
+    let verdict = verdict::with_later(head, file);
+    work::read_by(
         verdict,
         file,
         targets,
@@ -42,5 +48,5 @@ pub fn read_field(
         weights,
         parents,
     );
-    content::answer_by(verdict, file)
+    work::answer_by(verdict, file)
 }

@@ -11,10 +11,10 @@ use mir.ValLaws.{toZ-ofZ}
 use Rattle.numbers.specs.declared.Checked.the-variants.{Pass}
 use Rattle.numbers.specs.Checks.{Answered, maxTotal}
 use Rattle.numbers.proofs.SignedLaws.{signed, about, add-parts, parts-le}
-use Rattle.qlt.specs.declared.Repair.{Repair}
-use Rattle.qlt.specs.Operation.{call, Fits, RepairContract}
-use Rattle.account.specs.Step.{StepCall, next, newTotal, repairCall, StepFits}
-use Rattle.account.proofs.StepLaws.{fits-repair}
+use Rattle.qlt_spec.specs.declared.Repair.{Repair}
+use Rattle.qlt_spec.specs.Operation.{reconstructCall, ReconstructFits, RepairContract}
+use Rattle.kept_spec.specs.Step.{StepCall, next, newTotal, repairCall, StepFits}
+use Rattle.kept_spec.proofs.StepLaws.{fits-repair}
 
 pub next-fits : (t : ℕ) (z : ℤ) → t < 2 ^ 32 → SFits w32 z → SFits w64 (pos t +ℤ z)
 next-fits t z h f = omega (signed, add-parts (pos t) z, about z, about (pos t +ℤ z), f .sfits)
@@ -31,10 +31,10 @@ pub fits-total : (c : StepCall) → StepFits c → (pos 0 ≤ℤ next c) × (nex
 fits-total c f = subst (λ z. (pos 0 ≤ℤ z) × (z ≤ℤ pos maxTotal)) (f .whole) (parts-le (omega arith), parts-le (omega (arith, f .small)))
 
 -- its field can be repaired for it, and what that repair leaves is what the step leaves
-pub fits-call : (c : StepCall) (M : ℕ) → M ≡ newTotal c → StepFits c → Fits (call (c .lists) M (c .kept) (c .scratch))
-fits-call c M e f = subst (λ x. Fits (call (c .lists) x (c .kept) (c .scratch))) (sym e) (fits-repair c f)
+pub fits-call : (c : StepCall) (M : ℕ) → M ≡ newTotal c → StepFits c → ReconstructFits (reconstructCall (c .lists) M (c .kept) (c .scratch))
+fits-call c M e f = subst (λ x. ReconstructFits (reconstructCall (c .lists) x (c .kept) (c .scratch))) (sym e) (fits-repair c f)
 
 pub repaired-step :
     (c : StepCall) (M : ℕ) → M ≡ newTotal c → {told : Answered Repair} {kept : List ℕ} {scratch : List ℤ}
-    → RepairContract Pass (call (c .lists) M (c .kept) (c .scratch)) told kept scratch → RepairContract Pass (repairCall c) told kept scratch
-repaired-step c M e {told} {kept} {scratch} p = subst (λ x. RepairContract Pass (call (c .lists) x (c .kept) (c .scratch)) told kept scratch) e p
+    → RepairContract Pass (reconstructCall (c .lists) M (c .kept) (c .scratch)) told kept scratch → RepairContract Pass (repairCall c) told kept scratch
+repaired-step c M e {told} {kept} {scratch} p = subst (λ x. RepairContract Pass (reconstructCall (c .lists) x (c .kept) (c .scratch)) told kept scratch) e p

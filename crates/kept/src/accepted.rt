@@ -1,13 +1,13 @@
 // What an accepted step does: for this crate and the crates above. Relies on `reconstruct`.
 ghost use Rattle.numbers.specs.declared.Checked.the-variants.{Pass};
 ghost use Rattle.numbers.specs.Checks.{accepted};
-ghost use Rattle.qlt.specs.Field.{lists};
-ghost use Rattle.qlt.specs.Operation.{RepairContract};
-ghost use Rattle.account.specs.Step.{stepCall, repairCall, StepFits};
+ghost use Rattle.qlt_spec.specs.Field.{lists};
+ghost use Rattle.qlt_spec.specs.Operation.{RepairContract};
+ghost use Rattle.kept_spec.specs.Step.{stepCall, repairCall, StepFits};
 use crate::totals::add_source;
 use crate::totals::whole;
-use qlt::Repair;
-use reconstruct::inner::repaired;
+use qlt_spec::Repair;
+use reconstruct::repair::repaired;
 
 // An accepted step: the masses of its field for the new total replace the kept ones.
 pub fn step_on(
@@ -23,8 +23,17 @@ pub fn step_on(
     parents: &[u32],
     scratch: &mut [i64],
 ) -> Repair
-    requires { ⌜ StepFits (stepCall total (now kept) source (lists (now targets) (now lows) (now highs) (now «safe_lows») (now «safe_highs») (now weights) (now parents)) (now scratch)) ⌝ }
-    ensures { λ r. ⌜ RepairContract Pass (repairCall (stepCall total (now (kept .entry)) source (lists (now (targets .entry)) (now (lows .entry)) (now (highs .entry)) (now («safe_lows» .entry)) (now («safe_highs» .entry)) (now (weights .entry)) (now (parents .entry))) (now (scratch .entry)))) (accepted r) (now (kept .exit)) (now (scratch .exit)) ⌝ }
+    requires { ⌜ StepFits
+        (stepCall total (now kept) source
+        (lists (now targets) (now lows) (now highs) (now «safe_lows») (now «safe_highs») (now weights) (now parents)) (now scratch)) ⌝ }
+    ensures { λ r.
+        ⌜ RepairContract Pass
+        (repairCall
+        (stepCall total (now (kept .entry)) source
+        (lists (now (targets .entry)) (now (lows .entry)) (now (highs .entry)) (now («safe_lows» .entry)) (now («safe_highs» .entry))
+        (now (weights .entry)) (now (parents .entry)))
+        (now (scratch .entry))))
+        (accepted r) (now (kept .exit)) (now (scratch .exit)) ⌝ }
 {
     let next = add_source(total, source);
     repaired(

@@ -1,22 +1,22 @@
 // The operations Open and Step on a kept field. Public: `open`, `step`; for the crates above `totals` (12, 13 and the new total) and
-// `accepted` (what an accepted step does). What holds of every run of these calls is proved in `account` (demand 3).
-// Relies on `reconstruct`, `checks`, `account`, `qlt`, `caas` and `numbers`.
-ghost use Rattle.account.specs.Open.{OpenContract};
-ghost use Rattle.account.specs.Step.{stepCall, StepContract};
-ghost use Rattle.qlt.specs.Field.{lists};
-use account::Opened;
-use account::Stepped;
+// `accepted` (what an accepted step does). What holds of every run of these calls is proved in `kept_spec` (demand 3). Relies on
+// `reconstruct`, `kept_spec`, `field_checks`, `qlt_spec` and `numbers`.
+ghost use Rattle.kept_spec.specs.Open.{OpenContract};
+ghost use Rattle.kept_spec.specs.Step.{stepCall, StepContract};
+ghost use Rattle.qlt_spec.specs.Field.{lists};
+use kept_spec::Opened;
+use kept_spec::Stepped;
 
 pub mod accepted;
 pub mod totals;
-mod verdicts;
+mod verdict;
 mod work;
 
 // Adds up n kept masses and returns the total.
 pub fn open(kept: &[u32]) -> Opened
     ensures { λ r. ⌜ OpenContract (now (kept .entry)) r ⌝ }
 {
-    let verdict = verdicts::open_verdict(kept);
+    let verdict = verdict::open_verdict(kept);
     work::open_by(verdict, kept)
 }
 
@@ -34,9 +34,15 @@ pub fn step(
     parents: &[u32],
     scratch: &mut [i64],
 ) -> Stepped
-    ensures { λ r. ⌜ StepContract (stepCall total (now (kept .entry)) source (lists (now (targets .entry)) (now (lows .entry)) (now (highs .entry)) (now («safe_lows» .entry)) (now («safe_highs» .entry)) (now (weights .entry)) (now (parents .entry))) (now (scratch .entry))) r (now (kept .exit)) (now (scratch .exit)) ⌝ }
+    ensures { λ r.
+        ⌜ StepContract
+        (stepCall total (now (kept .entry)) source
+        (lists (now (targets .entry)) (now (lows .entry)) (now (highs .entry)) (now («safe_lows» .entry)) (now («safe_highs» .entry))
+        (now (weights .entry)) (now (parents .entry)))
+        (now (scratch .entry)))
+        r (now (kept .exit)) (now (scratch .exit)) ⌝ }
 {
-    let verdict = verdicts::step_verdict(
+    let verdict = verdict::step_verdict(
         total,
         kept,
         source,

@@ -6,13 +6,13 @@ ghost use lib.Signed.{_≤ℤ_};
 ghost use lib.ListN.{length};
 ghost use Rattle.numbers.specs.Signed.{over};
 ghost use Rattle.numbers.specs.Checks.{maxTotal};
-ghost use Rattle.account.specs.Open.{checkTotal};
-ghost use Rattle.account.specs.Step.{checkKept};
+ghost use Rattle.kept_spec.specs.Open.{checkTotal};
+ghost use Rattle.kept_spec.specs.Step.{checkKept};
 use numbers::Checked;
-use numbers::inner::and;
-use numbers::inner::at_most;
-use numbers::inner::sum_of;
-use numbers::inner::unless;
+use numbers::arith::at_most;
+use numbers::checks::and;
+use numbers::checks::unless;
+use numbers::lists::sum_of;
 
 // The total given plus the source.
 pub fn add_source(total: u32, source: i32) -> i64

@@ -1,14 +1,14 @@
 // What Open and Step leave and answer, by their verdicts.
 ghost use mathlib.Core.Path.{_≡_};
-ghost use Rattle.qlt.specs.Field.{lists};
-ghost use Rattle.account.specs.Open.{openVerdict, OpenContract};
-ghost use Rattle.account.specs.Step.{stepCall, stepVerdict, StepContract};
+ghost use Rattle.qlt_spec.specs.Field.{lists};
+ghost use Rattle.kept_spec.specs.Open.{openVerdict, OpenContract};
+ghost use Rattle.kept_spec.specs.Step.{stepCall, stepVerdict, StepContract};
 use crate::accepted::step_on;
-use account::Opened;
-use account::Stepped;
+use kept_spec::Opened;
+use kept_spec::Stepped;
 use numbers::Checked;
-use numbers::inner::narrow;
-use numbers::inner::sum_of;
+use numbers::arith::narrow;
+use numbers::lists::sum_of;
 
 // Open's answer, by its verdict.
 pub fn open_by(verdict: Checked, kept: &[u32]) -> Opened
@@ -36,8 +36,16 @@ pub fn step_by(
     parents: &[u32],
     scratch: &mut [i64],
 ) -> Stepped
-    requires { ⌜ verdict ≡ stepVerdict (stepCall total (now kept) source (lists (now targets) (now lows) (now highs) (now «safe_lows») (now «safe_highs») (now weights) (now parents)) (now scratch)) ⌝ }
-    ensures { λ r. ⌜ StepContract (stepCall total (now (kept .entry)) source (lists (now (targets .entry)) (now (lows .entry)) (now (highs .entry)) (now («safe_lows» .entry)) (now («safe_highs» .entry)) (now (weights .entry)) (now (parents .entry))) (now (scratch .entry))) r (now (kept .exit)) (now (scratch .exit)) ⌝ }
+    requires { ⌜ verdict ≡ stepVerdict
+        (stepCall total (now kept) source
+        (lists (now targets) (now lows) (now highs) (now «safe_lows») (now «safe_highs») (now weights) (now parents)) (now scratch)) ⌝ }
+    ensures { λ r.
+        ⌜ StepContract
+        (stepCall total (now (kept .entry)) source
+        (lists (now (targets .entry)) (now (lows .entry)) (now (highs .entry)) (now («safe_lows» .entry)) (now («safe_highs» .entry))
+        (now (weights .entry)) (now (parents .entry)))
+        (now (scratch .entry)))
+        r (now (kept .exit)) (now (scratch .exit)) ⌝ }
 {
     if let Checked::Fail { number, place } = verdict {
         return Stepped::Refused { number, place };

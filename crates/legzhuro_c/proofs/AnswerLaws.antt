@@ -15,20 +15,20 @@ use Rattle.numbers.specs.Checks.{unless, both, rule, Broken, DecidesAll, Refuse
 use Rattle.numbers.proofs.TestLaws.{Tested, holds, fails, tested, clash, le-means}
 use Rattle.numbers.proofs.CheckLaws.{on, last, both-first, both-second, decides-unless, decides-then, decides-none, decides-after}
 use Rattle.numbers.proofs.ChainLaws.{refuse-with, refuse-append}
-use Rattle.qlt.specs.Field.{Outcome, attainable, below, above, field, number, outcome}
-use Rattle.qlt.specs.Facts.{FieldFacts}
-use Rattle.qlt.specs.Operation.{repair}
-use Rattle.qlt.proofs.OperationLaws.{fits-facts}
-use Rattle.formats.specs.ReadField.{fileCells, fileTotal, HeadFits}
-use Rattle.formats.specs.WriteAnswer.{WriteCall, answerBlocks, writeCall, writeVerdict, writeRules, WriteFits}
-use Rattle.formats.proofs.WriteLaws.{write-accepts, write-refuses}
+use Rattle.qlt_spec.specs.Field.{Outcome, attainable, below, above, field, outcomeNumber, outcome}
+use Rattle.qlt_spec.specs.Facts.{FieldFacts}
+use Rattle.qlt_spec.specs.Operation.{repair}
+use Rattle.qlt_spec.proofs.OperationLaws.{fits-facts}
+use Rattle.files_spec.specs.ReadField.{fileCells, fileTotal, HeadFits}
+use Rattle.files_spec.specs.WriteAnswer.{WriteCall, answerBlocks, writeCall, writeVerdict, writeRules, WriteFits}
+use Rattle.files_spec.proofs.WriteLaws.{write-accepts, write-refuses}
 use Rattle.repair_file.specs.RepairFile.{largest, fileLists, fileCall, fileVerdict, fileRules, fileRepair, fileMasses}
 use Rattle.repair_file.proofs.FileLaws.{length-cells, length-masses}
 use Rattle.repair_file.proofs.VerdictLaws.{file-decides, file-accepts, file-numbers}
 use Rattle.legzhuro_c.specs.Calls.{callVerdict, callRules, CallFits}
 
-number-small : (o : Outcome) → number o ≤ 2
-unfolding number
+number-small : (o : Outcome) → outcomeNumber o ≤ 2
+unfolding outcomeNumber
 number-small attainable = omega arith
 number-small below = omega arith
 number-small above = omega arith

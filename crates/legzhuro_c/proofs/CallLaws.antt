@@ -11,28 +11,28 @@ use Rattle.numbers.specs.declared.Checked.the-variants.{Pass, Fail}
 use Rattle.numbers.specs.Lists.{written, sum}
 use Rattle.numbers.specs.Checks.{refused, after, both, first, checkCount, checkLong}
 use Rattle.numbers.proofs.CheckLaws.{answered-accepted, answered-refused, after-pass, after-fail, both-pass, both-first, both-second, long-decides}
-use Rattle.caas.specs.declared.SplitAnswer.{SplitAnswer}
-use Rattle.caas.specs.declared.SplitAnswer.the-variants as split
-use Rattle.caas.specs.Operation.{SplitCall, splitVerdict, splitTells, SplitContract}
-use Rattle.qlt.specs.declared.Repair.{Repair}
-use Rattle.qlt.specs.Field.{cells, nodes}
-use Rattle.qlt.specs.Checks.{checkNodes}
-use Rattle.qlt.specs.Operation.{repair, Leaves}
-use Rattle.qlt.proofs.OperationLaws.{contract-refused}
-use Rattle.account.specs.declared.Opened.{Opened}
-use Rattle.account.specs.declared.Opened.the-variants as opened
-use Rattle.account.specs.declared.Stepped.{Stepped}
-use Rattle.account.specs.declared.Stepped.the-variants as stepped
-use Rattle.account.specs.Open.{openVerdict, openTells, OpenContract}
-use Rattle.account.specs.Step.{StepCall, newTotal, repairCall, stepVerdict, stepTells, StepContract}
-use Rattle.conversion.specs.declared.CellDoubles.{CellDoubles}
-use Rattle.conversion.specs.declared.CellUnits.{CellUnits}
-use Rattle.conversion.specs.declared.Imported.{Imported}
-use Rattle.conversion.specs.declared.Imported.the-variants as imported
-use Rattle.conversion.specs.declared.Exported.{Exported}
-use Rattle.conversion.specs.declared.Exported.the-variants as exported
-use Rattle.conversion.specs.Import.{importVerdict, importUnits, importTells, ImportContract}
-use Rattle.conversion.specs.Export.{exportVerdict, exportDouble, exportTells, ExportContract}
+use Rattle.caas_spec.specs.declared.SplitAnswer.{SplitAnswer}
+use Rattle.caas_spec.specs.declared.SplitAnswer.the-variants as split
+use Rattle.caas_spec.specs.Operation.{SplitCall, splitVerdict, splitTells, SplitContract}
+use Rattle.qlt_spec.specs.declared.Repair.{Repair}
+use Rattle.qlt_spec.specs.Field.{cells, nodes}
+use Rattle.qlt_spec.specs.Checks.{checkNodes}
+use Rattle.qlt_spec.specs.Operation.{repair, Leaves}
+use Rattle.qlt_spec.proofs.OperationLaws.{contract-refused}
+use Rattle.kept_spec.specs.declared.Opened.{Opened}
+use Rattle.kept_spec.specs.declared.Opened.the-variants as opened
+use Rattle.kept_spec.specs.declared.Stepped.{Stepped}
+use Rattle.kept_spec.specs.declared.Stepped.the-variants as stepped
+use Rattle.kept_spec.specs.Open.{openVerdict, openTells, OpenContract}
+use Rattle.kept_spec.specs.Step.{StepCall, newTotal, repairCall, stepVerdict, stepTells, StepContract}
+use Rattle.doubles_spec.specs.declared.CellDoubles.{CellDoubles}
+use Rattle.doubles_spec.specs.declared.CellUnits.{CellUnits}
+use Rattle.doubles_spec.specs.declared.Imported.{Imported}
+use Rattle.doubles_spec.specs.declared.Imported.the-variants as imported
+use Rattle.doubles_spec.specs.declared.Exported.{Exported}
+use Rattle.doubles_spec.specs.declared.Exported.the-variants as exported
+use Rattle.doubles_spec.specs.Import.{importVerdict, importUnits, importTells, ImportContract}
+use Rattle.doubles_spec.specs.Export.{exportVerdict, exportDouble, exportTells, ExportContract}
 use Rattle.legzhuro_c.specs.Calls.{returned, SplitReturns, openCallVerdict, OpenReturns, stepCallVerdict, repairWords, StepReturns, importCallVerdict, unitsList, ImportReturns, exportCallVerdict, ExportReturns}
 
 -- ---- what a verdict makes of the return value and of a lent list

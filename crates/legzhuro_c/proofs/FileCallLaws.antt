@@ -10,11 +10,11 @@ use Rattle.numbers.specs.declared.Checked.the-variants.{Pass, Fail}
 use Rattle.numbers.specs.Lists.{written}
 use Rattle.numbers.specs.Checks.{answered, after, both}
 use Rattle.numbers.proofs.CheckLaws.{both-pass, answered-accepted, answered-refused}
-use Rattle.qlt.specs.declared.Repair.{Repair}
-use Rattle.formats.specs.declared.AnswerWritten.{AnswerWritten}
-use Rattle.formats.specs.declared.AnswerWritten.the-variants.{Bytes, Refused}
-use Rattle.formats.specs.ReadField.{fileCells}
-use Rattle.formats.specs.WriteAnswer.{answerBlocks, answerBytes, writeCall, writeVerdict, writeTells, WriteContract}
+use Rattle.qlt_spec.specs.declared.Repair.{Repair}
+use Rattle.files_spec.specs.declared.AnswerWritten.{AnswerWritten}
+use Rattle.files_spec.specs.declared.AnswerWritten.the-variants.{Bytes, Refused}
+use Rattle.files_spec.specs.ReadField.{fileCells}
+use Rattle.files_spec.specs.WriteAnswer.{answerBlocks, answerBytes, writeCall, writeVerdict, writeTells, WriteContract}
 use Rattle.repair_file.specs.RepairFile.{fileVerdict, fileRepair, fileMasses}
 use Rattle.repair_file.proofs.FileLaws.{FileDone}
 use Rattle.legzhuro_c.specs.Calls.{callVerdict, numberOf, writtenNumber, ReconstructReturns}

@@ -17,24 +17,24 @@ use Rattle.numbers.specs.Checks.{Answered, accepted, refused, answered, unless,
 use Rattle.numbers.proofs.TestLaws.{eq-means, lt-means, and-means, and-first, and-second}
 use Rattle.numbers.proofs.CheckLaws.{both-pass}
 use Rattle.numbers.proofs.ChainLaws.{fails-number, broken-first}
-use Rattle.caas.specs.Operation.{SplitCall, splitVerdict, splitTells, splitAnswer, SplitContract}
-use Rattle.caas.proofs.OperationLaws.{verdict-decides, split-numbers}
-use Rattle.qlt.specs.declared.Repair.{Repair}
-use Rattle.qlt.specs.Field.{cells, nodes}
-use Rattle.qlt.specs.Checks.{checkNodes, checkShape}
-use Rattle.qlt.specs.Operation.{repair, Leaves}
-use Rattle.account.specs.Open.{openVerdict, openTells, openAnswer, OpenContract}
-use Rattle.account.specs.Step.{StepCall, newTotal, repairCall, stepVerdict, stepAnswer, StepContract}
-use Rattle.account.proofs.OpenLaws.{open-decides, open-numbers}
-use Rattle.account.proofs.StepLaws.{step-decides, step-numbers, answer-tells}
-use Rattle.conversion.specs.declared.CellDoubles.{CellDoubles}
-use Rattle.conversion.specs.declared.CellUnits.{CellUnits}
-use Rattle.conversion.specs.declared.Imported.the-variants.{BadScale, Refused}
-use Rattle.conversion.specs.Import.{doubleAt, importVerdict, importRules, importUnits, importTells, importAnswer, importHolds, carried, ImportContract}
-use Rattle.conversion.specs.Export.{exportVerdict, exportDouble, exportTells, exportAnswer, ExportContract}
-use Rattle.conversion.proofs.ImportLaws.{import-decides, import-refuses, import-numbers}
-use Rattle.conversion.proofs.ExportLaws.{export-decides, export-numbers, export-meets}
-use Rattle.legzhuro_c.specs.Calls.{returned, told, SplitReturns, openCallVerdict, OpenReturns, stepCallVerdict, repairWords, StepReturns, importCallVerdict, unitsList, ImportReturns, exportCallVerdict, ExportReturns, repairIn, unitsIn, doubleIn}
+use Rattle.caas_spec.specs.Operation.{SplitCall, splitVerdict, splitTells, splitAnswer, SplitContract}
+use Rattle.caas_spec.proofs.OperationLaws.{split-decides, split-numbers}
+use Rattle.qlt_spec.specs.declared.Repair.{Repair}
+use Rattle.qlt_spec.specs.Field.{cells, nodes}
+use Rattle.qlt_spec.specs.Checks.{checkNodes, checkShape}
+use Rattle.qlt_spec.specs.Operation.{repair, Leaves}
+use Rattle.kept_spec.specs.Open.{openVerdict, openTells, openAnswer, OpenContract}
+use Rattle.kept_spec.specs.Step.{StepCall, newTotal, repairCall, stepVerdict, stepAnswer, StepContract}
+use Rattle.kept_spec.proofs.OpenLaws.{open-decides, open-numbers}
+use Rattle.kept_spec.proofs.StepLaws.{step-decides, step-numbers, answer-tells}
+use Rattle.doubles_spec.specs.declared.CellDoubles.{CellDoubles}
+use Rattle.doubles_spec.specs.declared.CellUnits.{CellUnits}
+use Rattle.doubles_spec.specs.declared.Imported.the-variants.{BadScale, Refused}
+use Rattle.doubles_spec.specs.Import.{doubleAt, importVerdict, importRules, importUnits, importTells, importAnswer, importHolds, carried, ImportContract}
+use Rattle.doubles_spec.specs.Export.{exportVerdict, exportDouble, exportTells, exportAnswer, ExportContract}
+use Rattle.doubles_spec.proofs.ImportLaws.{import-decides, import-refuses, import-numbers}
+use Rattle.doubles_spec.proofs.ExportLaws.{export-decides, export-numbers, export-meets}
+use Rattle.legzhuro_c.specs.Calls.{returned, toldBy, SplitReturns, openCallVerdict, OpenReturns, stepCallVerdict, repairWords, StepReturns, importCallVerdict, unitsList, ImportReturns, exportCallVerdict, ExportReturns, repairIn, unitsIn, doubleIn}
 use Rattle.legzhuro_c.proofs.CallLaws.{after-by, long-passes, long-fails, room, no-room}
 
 -- ---- a return value tells its verdict
@@ -46,11 +46,11 @@ InWord number = (0 < number) × (number < 2 ^ 32)
 abbrev pub Numbered : Checked → Type 0
 Numbered v = (number place : ℕ) → v ≡ Fail number place → InWord number
 
-told-refused : {X : Type 0} (r : ℕ) (x : X) → 0 < r → told r x ≡ refused (r % 2 ^ 32) (r / 2 ^ 32)
+told-refused : {X : Type 0} (r : ℕ) (x : X) → 0 < r → toldBy r x ≡ refused (r % 2 ^ 32) (r / 2 ^ 32)
 told-refused zero x h = absurd (omega arith)
 told-refused (suc r) x h = refl
 
-pub told-returned : {X : Type 0} (v : Checked) (x : X) → Numbered v → told (returned v) x ≡ answered v x
+pub told-returned : {X : Type 0} (v : Checked) (x : X) → Numbered v → toldBy (returned v) x ≡ answered v x
 told-returned Pass x h = refl
 told-returned (Fail number place) x h =
     let b = h number place refl in
@@ -59,8 +59,8 @@ told-returned (Fail number place) x h =
     told-refused (number + place * 2 ^ 32) x (omega (arith, b)) ∙ ap₂ refused low high
 
 -- and, where the call is accepted, the values that the lent list holds
-pub told-own : {X : Type 0} (v : Checked) (r : ℕ) (x y : X) → Numbered v → r ≡ returned v → (v ≡ Pass → x ≡ y) → told r x ≡ answered v y
-told-own v r x y h e f = ap (λ n. told n x) e ∙ told-returned v x h ∙ same v f
+pub told-own : {X : Type 0} (v : Checked) (r : ℕ) (x y : X) → Numbered v → r ≡ returned v → (v ≡ Pass → x ≡ y) → toldBy r x ≡ answered v y
+told-own v r x y h e f = ap (λ n. toldBy n x) e ∙ told-returned v x h ∙ same v f
   where
     same : (w : Checked) → (w ≡ Pass → x ≡ y) → answered w x ≡ answered w y
     same Pass g = ap accepted (g refl)
@@ -87,17 +87,17 @@ numbered ns d w t n p e = one-word ns t n (w n .0 (fails-number d e))
 -- ---- Split
 
 pub split-numbered : (c : SplitCall) → Numbered (splitVerdict c)
-split-numbered c = numbered _ (verdict-decides c) (split-numbers c) refl
+split-numbered c = numbered _ (split-decides c) (split-numbers c) refl
 
 split-tells : (a : Answered Unit) → splitTells (splitAnswer a) ≡ a
 unfolding splitTells
 split-tells (accepted u) = refl
 split-tells (refused number place) = refl
 
-pub split-own : (c : SplitCall) (r : ℕ) (masses : List ℤ) → SplitReturns c r masses → SplitContract c (splitAnswer (told r tt)) masses
+pub split-own : (c : SplitCall) (r : ℕ) (masses : List ℤ) → SplitReturns c r masses → SplitContract c (splitAnswer (toldBy r tt)) masses
 split-own c r masses q =
     record {
-      answers = split-tells (told r tt) ∙ told-own (splitVerdict c) r tt tt (split-numbered c) (q .returns) (λ e. refl);
+      answers = split-tells (toldBy r tt) ∙ told-own (splitVerdict c) r tt tt (split-numbered c) (q .returns) (λ e. refl);
       writes = q .writes;
     }
 
@@ -116,13 +116,13 @@ unfolding written
 total-read answer t = refl
 
 module _ (kept answer : List ℕ) (r : ℕ) (answer′ : List ℕ) where
-  pub open-own : 1 ≤ length answer → OpenReturns kept answer r answer′ → OpenContract kept (openAnswer (told r (at answer′ 0)))
+  pub open-own : 1 ≤ length answer → OpenReturns kept answer r answer′ → OpenContract kept (openAnswer (toldBy r (at answer′ 0)))
   unfolding openCallVerdict
   open-own h q =
       let v = room (length answer) 1 (openVerdict kept) h in
       record {
         answers =
-            open-tells (told r (at answer′ 0))
+            open-tells (toldBy r (at answer′ 0))
             ∙ told-own (openVerdict kept) r (at answer′ 0) (sum kept) (open-numbered kept) (q .returns ∙ ap returned v)
             (λ e. ap (λ l. at l 0) (q .writes ∙ after-by (written answer 0 (sum kept ∷ [])) answer (v ∙ e)) ∙ total-read answer (sum kept));
       }
@@ -169,13 +169,13 @@ module _ (c : StepCall) (answer : List ℕ) where
       go true true v e w = (3, (ap (λ x. both x w) e, inr (inr refl)))
 
   module _ (r : ℕ) (kept : List ℕ) (scratch : List ℤ) (answer′ : List ℕ) where
-    pub step-own : 3 ≤ length answer → StepReturns c answer r kept scratch answer′ → StepContract c (stepAnswer (told r (repairIn answer′))) kept scratch
+    pub step-own : 3 ≤ length answer → StepReturns c answer r kept scratch answer′ → StepContract c (stepAnswer (toldBy r (repairIn answer′))) kept scratch
     step-own h q =
         let v = step-long h in
         let x = repair (c .lists) (newTotal c) in
         record {
           answers =
-              answer-tells (told r (repairIn answer′))
+              answer-tells (toldBy r (repairIn answer′))
               ∙ told-own (stepVerdict c) r (repairIn answer′) x (step-numbered c) (q .returns ∙ ap returned v)
               (λ e. ap repairIn (q .writes ∙ after-by (written answer 0 (repairWords x)) answer (v ∙ e)) ∙ repair-read answer x);
           leaves = subst (λ w. Leaves w (repairCall c) kept scratch) v (q .leaves);
@@ -227,7 +227,7 @@ unfolding written
 units-read units u = refl
 
 module _ (c : CellDoubles) (k : ℕ) (units : List ℤ) (r : ℕ) (units′ : List ℤ) where
-  pub import-own : 5 ≤ length units → ImportReturns c k units r units′ → ImportContract c k (importAnswer (told r (unitsIn units′)) c)
+  pub import-own : 5 ≤ length units → ImportReturns c k units r units′ → ImportContract c k (importAnswer (toldBy r (unitsIn units′)) c)
   unfolding importCallVerdict
   import-own h q =
       let v = room (length units) 5 (importVerdict c k) h in
@@ -261,13 +261,13 @@ unfolding written
 double-read value x = refl
 
 module _ (mass k : ℕ) (value : List Float) (r : ℕ) (value′ : List Float) where
-  pub export-own : 1 ≤ length value → ExportReturns mass k value r value′ → ExportContract mass k (exportAnswer (told r (doubleIn value′)))
+  pub export-own : 1 ≤ length value → ExportReturns mass k value r value′ → ExportContract mass k (exportAnswer (toldBy r (doubleIn value′)))
   unfolding exportCallVerdict
   export-own h q =
       let v = room (length value) 1 (exportVerdict mass k) h in
       let x = exportDouble mass k in
-      export-meets mass k (exportAnswer (told r (doubleIn value′)))
-      (export-tells (told r (doubleIn value′))
+      export-meets mass k (exportAnswer (toldBy r (doubleIn value′)))
+      (export-tells (toldBy r (doubleIn value′))
       ∙ told-own (exportVerdict mass k) r (doubleIn value′) x (export-numbered mass k) (q .returns ∙ ap returned v)
       (λ e. ap doubleIn (q .writes ∙ after-by (written value 0 (x ∷ [])) value (v ∙ e)) ∙ double-read value x))
 

@@ -1,6 +1,6 @@
 -- Runs of the calls from C are runs of Step, so the theorem about every run (demand 3) holds of them. A call whose list for the values is too
 -- short is refused before Step is called, and leaves everything. Assumes nothing.
-use mathlib.Core.Path.{_≡_, refl, sym, _∙_, ap, ap₂, subst}
+use mathlib.Core.Path.{_≡_, refl, sym, _∙_, ap, subst}
 use mathlib.Core.Logic.{⊎-elim}
 use mathlib.Core.Bool.{Bool, true, false, cond}
 use mathlib.Core.List.{List, [], _∷_, _++_}
@@ -10,17 +10,14 @@ use lib.Dec.{leb}
 use lib.ListN.{length}
 use borrow.Author.Tests.{leb-true, leb-false}
 use Rattle.numbers.specs.Lists.{at}
-use Rattle.numbers.specs.Checks.{Answered, accepted, refused}
-use Rattle.qlt.specs.declared.Repair.{Repair}
-use Rattle.account.specs.Open.{openTells, openAnswer}
-use Rattle.account.specs.Step.{stepTells, stepAnswer}
-use Rattle.account.specs.Run.{Run, collect}
-use Rattle.account.specs.Account.{Event, Balance, Standing, told, Accepts, balanceAfter, Promised, Moves, Account}
-use Rattle.account.proofs.RunLaws.{run-collect}
-use Rattle.account.proofs.StepLaws.{answer-tells}
-use Rattle.account.proofs.Demand3.{demand3}
-use Rattle.legzhuro_c.specs.Calls as calls
-use Rattle.legzhuro_c.specs.Calls.{OpenReturns, repairIn}
+use Rattle.numbers.specs.Checks.{accepted}
+use Rattle.kept_spec.specs.Open.{openTells, openAnswer}
+use Rattle.kept_spec.specs.Run.{Run, collect}
+use Rattle.kept_spec.specs.Account.{Balance, Standing, told, balanceAfter, Promised, Moves, Account}
+use Rattle.kept_spec.proofs.RunLaws.{run-collect}
+use Rattle.kept_spec.proofs.StepLaws.{answer-tells}
+use Rattle.kept_spec.proofs.Demand3.{demand3}
+use Rattle.legzhuro_c.specs.Calls.{OpenReturns, repairIn, toldBy}
 use Rattle.legzhuro_c.specs.CallRuns.{CallEvent, eventOf, stepsOf, CallPromised, CallMoves}
 use Rattle.legzhuro_c.proofs.OwnLaws.{open-own, step-own, step-short, step-short-returns}
 
@@ -38,9 +35,9 @@ module _ (e : CallEvent) (short : length (e .answer) < 3) (p : CallPromised e) w
       (step-short-returns (e .call) (e .answer) (e .returned) (e .kept) (e .scratch) (e .answer′) short p)
 
   balance-stays : (b : Balance) → balanceAfter (told (eventOf e)) b ≡ b
-  balance-stays b = ap (λ a. balanceAfter a b) (answer-tells (calls.told (e .returned) (repairIn (e .answer′)))) ∙ by-return (e .returned) (small .0)
+  balance-stays b = ap (λ a. balanceAfter a b) (answer-tells (toldBy (e .returned) (repairIn (e .answer′)))) ∙ by-return (e .returned) (small .0)
     where
-      by-return : (r : ℕ) → 0 < r → balanceAfter (calls.told r (repairIn (e .answer′))) b ≡ b
+      by-return : (r : ℕ) → 0 < r → balanceAfter (toldBy r (repairIn (e .answer′))) b ≡ b
       by-return zero h = absurd (omega arith)
       by-return (suc r) h = refl
 
@@ -73,4 +70,4 @@ pub call-account :
     → Account opening (collect stepsOf es) end
 unfolding openTells
 call-account kept answer answer′ opening h q o es end r =
-    demand3 kept (openAnswer (calls.told 0 (at answer′ 0))) opening (open-own kept answer 0 answer′ h q) (ap accepted (sym o)) (collect stepsOf es) end (call-run _ end es r)
+    demand3 kept (openAnswer (toldBy 0 (at answer′ 0))) opening (open-own kept answer 0 answer′ h q) (ap accepted (sym o)) (collect stepsOf es) end (call-run _ end es r)

@@ -6,10 +6,9 @@ use Prim.Native.Nat.{ℕ}
 use lib.Dec.{leb}
 use lib.IntN.{ℤ}
 use lib.ListN.{length}
-use Rattle.account.specs.Step.{StepCall, stepAnswer}
-use Rattle.account.specs.Account.{Event, Standing, balanceOf, told, Accepts, balanceAfter}
-use Rattle.legzhuro_c.specs.Calls as calls
-use Rattle.legzhuro_c.specs.Calls.{StepReturns, repairIn}
+use Rattle.kept_spec.specs.Step.{StepCall, stepAnswer}
+use Rattle.kept_spec.specs.Account.{Event, Standing, balanceOf, told, Accepts, balanceAfter}
+use Rattle.legzhuro_c.specs.Calls.{StepReturns, repairIn, toldBy}
 
 -- a call of `legzhuro_step` with what it returned and left
 pub record CallEvent : Type 0 where
@@ -25,7 +24,7 @@ abbrev pub eventOf : CallEvent → Event
 eventOf e =
     record {
       call = e .call;
-      answer = stepAnswer (calls.told (e .returned) (repairIn (e .answer′)));
+      answer = stepAnswer (toldBy (e .returned) (repairIn (e .answer′)));
       kept = e .kept;
       scratch = e .scratch;
     }

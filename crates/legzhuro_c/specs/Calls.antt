@@ -10,21 +10,21 @@ use Rattle.numbers.specs.declared.Checked.the-variants.{Pass, Fail}
 use Rattle.numbers.specs.Lists.{at, atℤ, written, sum}
 use Rattle.numbers.specs.Signed.{over}
 use Rattle.numbers.specs.Checks.{Answered, accepted, refused, after, first, checkCount, checkLong, Rule, rule}
-use Rattle.caas.specs.Operation.{SplitCall, splitVerdict, splitMasses}
-use Rattle.qlt.specs.declared.Repair.{Repair}
-use Rattle.qlt.specs.Field.{cells, nodes}
-use Rattle.qlt.specs.Checks.{checkNodes}
-use Rattle.qlt.specs.Operation.{repair, Leaves}
-use Rattle.account.specs.Open.{openVerdict}
-use Rattle.account.specs.Step.{StepCall, newTotal, repairCall, stepVerdict}
-use Rattle.conversion.specs.declared.CellDoubles.{CellDoubles}
-use Rattle.conversion.specs.declared.CellUnits.{CellUnits}
-use Rattle.conversion.specs.Import.{importVerdict, importUnits}
-use Rattle.conversion.specs.Export.{exportVerdict, exportDouble}
-use Rattle.formats.specs.declared.AnswerWritten.{AnswerWritten}
-use Rattle.formats.specs.declared.AnswerWritten.the-variants as answers
-use Rattle.formats.specs.ReadField.{fileCells}
-use Rattle.formats.specs.WriteAnswer.{answerBlocks, answerBytes, writeCall, writeVerdict}
+use Rattle.caas_spec.specs.Operation.{SplitCall, splitVerdict, splitMasses}
+use Rattle.qlt_spec.specs.declared.Repair.{Repair}
+use Rattle.qlt_spec.specs.Field.{cells, nodes}
+use Rattle.qlt_spec.specs.Checks.{checkNodes}
+use Rattle.qlt_spec.specs.Operation.{repair, Leaves}
+use Rattle.kept_spec.specs.Open.{openVerdict}
+use Rattle.kept_spec.specs.Step.{StepCall, newTotal, repairCall, stepVerdict}
+use Rattle.doubles_spec.specs.declared.CellDoubles.{CellDoubles}
+use Rattle.doubles_spec.specs.declared.CellUnits.{CellUnits}
+use Rattle.doubles_spec.specs.Import.{importVerdict, importUnits}
+use Rattle.doubles_spec.specs.Export.{exportVerdict, exportDouble}
+use Rattle.files_spec.specs.declared.AnswerWritten.{AnswerWritten}
+use Rattle.files_spec.specs.declared.AnswerWritten.the-variants as answers
+use Rattle.files_spec.specs.ReadField.{fileCells}
+use Rattle.files_spec.specs.WriteAnswer.{answerBlocks, answerBytes, writeCall, writeVerdict}
 use Rattle.repair_file.specs.RepairFile.{fileVerdict, fileRules, FileFits, fileRepair, fileMasses}
 
 -- ---- the call on files: reading, then Reconstruct, then writing, each in its order
@@ -63,9 +63,9 @@ returned Pass = 0
 returned (Fail number place) = number + place * 2 ^ 32
 
 -- what a return value tells, with the values that the lent list holds
-abbrev pub told : {X : Type 0} → ℕ → X → Answered X
-told zero values = accepted values
-told (suc r) values = refused (suc r % 2 ^ 32) (suc r / 2 ^ 32)
+abbrev pub toldBy : {X : Type 0} → ℕ → X → Answered X
+toldBy zero values = accepted values
+toldBy (suc r) values = refused (suc r % 2 ^ 32) (suc r / 2 ^ 32)
 
 -- Split
 pub record SplitReturns (c : SplitCall) (r : ℕ) (masses : List ℤ) : Type 0 where

@@ -1,15 +1,15 @@
 // The calls from C, a static library. `include/legzhuro.h` documents them. Public: the six functions here; what they share is in `returns`
-// and the work of the file call in `whole`, for this crate alone. Relies on every operation and on `repair_file` and `numbers`.
-ghost use Rattle.caas.specs.Operation.{splitCall};
-ghost use Rattle.qlt.specs.Field.{lists};
-ghost use Rattle.account.specs.Step.{stepCall};
+// and the work of the file call in `whole`. Relies on every operation and on `repair_file` and `numbers`.
+ghost use Rattle.caas_spec.specs.Operation.{splitCall};
+ghost use Rattle.qlt_spec.specs.Field.{lists};
+ghost use Rattle.kept_spec.specs.Step.{stepCall};
 ghost use Rattle.legzhuro_c.specs.Calls.{ReconstructReturns, SplitReturns, OpenReturns, StepReturns, ImportReturns, ExportReturns};
-use account::Opened;
-use account::Stepped;
-use caas::SplitAnswer;
-use conversion::CellDoubles;
-use conversion::Exported;
-use conversion::Imported;
+use caas_spec::SplitAnswer;
+use doubles_spec::CellDoubles;
+use doubles_spec::Exported;
+use doubles_spec::Imported;
+use kept_spec::Opened;
+use kept_spec::Stepped;
 use numbers::Checked;
 
 mod returns;
@@ -54,7 +54,10 @@ pub extern "C" fn legzhuro_split(
     total: i64,
     masses: &mut [i64],
 ) -> u64
-    ensures { λ r. ⌜ SplitReturns (splitCall (now (targets .entry)) (now (lows .entry)) (now (highs .entry)) (now (weights .entry)) total (now (masses .entry))) r (now (masses .exit)) ⌝ }
+    ensures { λ r.
+        ⌜ SplitReturns
+        (splitCall (now (targets .entry)) (now (lows .entry)) (now (highs .entry)) (now (weights .entry)) total (now (masses .entry))) r
+        (now (masses .exit)) ⌝ }
 {
     match split::split(targets, lows, highs, weights, total, masses) {
         SplitAnswer::Done => 0,
@@ -92,7 +95,13 @@ pub extern "C" fn legzhuro_step(
     scratch: &mut [i64],
     answer: &mut [u64],
 ) -> u64
-    ensures { λ r. ⌜ StepReturns (stepCall total (now (kept .entry)) source (lists (now (targets .entry)) (now (lows .entry)) (now (highs .entry)) (now («safe_lows» .entry)) (now («safe_highs» .entry)) (now (weights .entry)) (now (parents .entry))) (now (scratch .entry))) (now (answer .entry)) r (now (kept .exit)) (now (scratch .exit)) (now (answer .exit)) ⌝ }
+    ensures { λ r.
+        ⌜ StepReturns
+        (stepCall total (now (kept .entry)) source
+        (lists (now (targets .entry)) (now (lows .entry)) (now (highs .entry)) (now («safe_lows» .entry)) (now («safe_highs» .entry))
+        (now (weights .entry)) (now (parents .entry)))
+        (now (scratch .entry)))
+        (now (answer .entry)) r (now (kept .exit)) (now (scratch .exit)) (now (answer .exit)) ⌝ }
 {
     let shape = returns::step_shape(targets.len(), parents.len(), answer.len());
     if let Checked::Fail { number, place } = shape {
@@ -128,7 +137,9 @@ pub extern "C" fn legzhuro_import(
     scale: u32,
     units: &mut [i64],
 ) -> u64
-    ensures { λ r. ⌜ ImportReturns (record { target = target; low = low; high = high; «safe_low» = «safe_low»; «safe_high» = «safe_high» }) scale (now (units .entry)) r (now (units .exit)) ⌝ }
+    ensures { λ r.
+        ⌜ ImportReturns (record { target = target; low = low; high = high; «safe_low» = «safe_low»; «safe_high» = «safe_high» }) scale
+        (now (units .entry)) r (now (units .exit)) ⌝ }
 {
     if units.len() < 5 {
         return 3;

@@ -5,15 +5,15 @@ ghost use Prim.Native.Nat.{_+_, _*_, _≤_, _^_};
 ghost use lib.ListN.{length};
 ghost use Rattle.numbers.specs.Lists.{written};
 ghost use Rattle.numbers.specs.Checks.{first, checkCount, checkLong};
-ghost use Rattle.qlt.specs.Checks.{checkNodes};
+ghost use Rattle.qlt_spec.specs.Checks.{checkNodes};
 ghost use Rattle.legzhuro_c.specs.Calls.{repairWords, unitsList};
-use checks::inner::check_nodes;
-use conversion::CellUnits;
+use doubles_spec::CellUnits;
+use field_checks::shape::check_nodes;
 use numbers::Checked;
-use numbers::inner::check_count;
-use numbers::inner::check_long;
-use numbers::inner::then;
-use qlt::Repair;
+use numbers::checks::check_count;
+use numbers::checks::check_long;
+use numbers::checks::then;
+use qlt_spec::Repair;
 
 // The number in the low 32 bits, the place in the high 32.
 pub fn refusal(number: u32, place: u32) -> u64

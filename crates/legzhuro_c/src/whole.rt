@@ -3,9 +3,9 @@ ghost use mathlib.Core.Path.{_≡_};
 ghost use lib.ListN.{length};
 ghost use Rattle.legzhuro_c.specs.Calls.{writtenNumber, ReconstructReturns};
 use answer_file::write_answer;
-use formats::AnswerWritten;
+use files_spec::AnswerWritten;
 use repair_file::FileRepaired;
-use repair_file::inner::repair_file;
+use repair_file::repair::repair_file;
 
 // 0, or the refusal's number.
 fn number_of(written: AnswerWritten) -> u32
@@ -31,7 +31,8 @@ pub fn answer_file(
     scratch: &mut [i64],
 ) -> u32
     requires { ⌜ (length (now targets) ≡ 512) × (length (now lows) ≡ 512) × (length (now highs) ≡ 512) × (length (now «safe_lows») ≡ 512) ⌝ }
-    requires { ⌜ (length (now «safe_highs») ≡ 512) × (length (now weights) ≡ 512) × (length (now parents) ≡ 1024) × (length (now masses) ≡ 512) × (length (now scratch) ≡ 6144) ⌝ }
+    requires { ⌜ (length (now «safe_highs») ≡ 512) × (length (now weights) ≡ 512) × (length (now parents) ≡ 1024) × (length (now masses) ≡ 512) ×
+        (length (now scratch) ≡ 6144) ⌝ }
     ensures { λ r. ⌜ ReconstructReturns (now (file .entry)) (now (answer .entry)) r (now (answer .exit)) ⌝ }
 {
     let repaired = repair_file(

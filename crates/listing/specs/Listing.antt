@@ -4,7 +4,7 @@ use mathlib.Core.List.{List, [], _++_}
 use Prim.Native.Nat.{ℕ, zero, suc}
 use lib.IntN.{ℤ, pos, _-ℤ_}
 use Rattle.numbers.specs.Lists.{at, atℤ}
-use Rattle.qlt.specs.declared.Repair.{Repair}
+use Rattle.qlt_spec.specs.declared.Repair.{Repair}
 use Rattle.text.specs.Ascii.{ascii}
 use Rattle.text.specs.Text.{number, signedNumber, named, space, newline}
 

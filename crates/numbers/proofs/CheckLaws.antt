@@ -10,7 +10,7 @@ use native.Mathlib.Decide.{ℕ-discrete}
 use lib.Dec.{eqb}
 use Rattle.numbers.specs.declared.Checked.{Checked}
 use Rattle.numbers.specs.declared.Checked.the-variants.{Pass, Fail}
-use Rattle.numbers.specs.Checks.{accepted, refused, answered, after, unless, both, eachFrom, firstFrom, everyFrom, Rule, Decides, rule, ruleFor, ruleAt, Holds, Broken, DecidesAll, rulesFrom, checkCount, checkScale, checkLength, checkLong}
+use Rattle.numbers.specs.Checks.{accepted, refused, answered, after, unless, both, first, eachFrom, firstFrom, everyFrom, Rule, Decides, rule, ruleFor, ruleAt, Holds, Broken, DecidesAll, rulesFrom, checkCount, checkScale, checkLength, checkLong}
 use Rattle.numbers.proofs.TestLaws.{Tested, holds, fails, tested, clash, and-means, lt-means, le-means, and-first, and-second, and-intro}
 
 -- ---- along a chain: the first passes and the rest decides; the first fails and that is it; the last decides
@@ -32,6 +32,11 @@ both-assoc (Fail n p) v w = refl
 pub both-pass : (v : Checked) → both v Pass ≡ v
 both-pass Pass = refl
 both-pass (Fail n p) = refl
+
+-- one chain after another
+pub first-append : (vs ws : List Checked) → both (first vs) (first ws) ≡ first (vs ++ ws)
+first-append [] ws = refl
+first-append (v ∷ vs) ws = both-assoc v (first vs) (first ws) ∙ ap (both v) (first-append vs ws)
 
 -- two tests with one number and place are one test of both
 pub unless-and : (a b : Bool) (number place : ℕ) → both (unless a number place) (unless b number place) ≡ unless (a && b) number place

@@ -2,7 +2,7 @@
 -- even one if two are as near. Assumes nothing.
 use mathlib.Core.Path.{_≡_, refl, sym, ap, _∙_}
 use mathlib.Core.Bool.{Bool, true, false, not, cond}
-use Prim.Native.Nat.{ℕ, zero, suc, _+_, _*_, _/_, _%_, _^_, _≤_, _<_, compare, Ordering, Ordering·lt, Ordering·eq, Ordering·gt}
+use Prim.Native.Nat.{ℕ, zero, suc, _+_, _*_, _/_, _%_, _≤_, _<_, compare, Ordering, Ordering·lt, Ordering·eq, Ordering·gt}
 use native.Mathlib.Nat.{div-add-mod', mod-lt, add-mul, one-mul, suc-mul, zero-mul, mul-le-mul-right, div-mul-le-self, le-div-iff-mul-le}
 use native.Mathlib.Omega.{arith}
 use native.Mathlib.Decide.{ℕ-discrete}
@@ -13,7 +13,7 @@ use lib.Ieee as Ieee
 use lib.Ieee.Nearest.{closest}
 use Rattle.numbers.specs.Signed.{over, under, gap}
 use Rattle.numbers.proofs.SignedLaws.{one-part, neg-parts, minus-parts, minus-size, le-parts, parts-le, abs-parts}
-use Rattle.numbers.specs.Roundings.{ceiling, signed, roundDown, roundUp, roundNearest, Down, Up, distance, NearestEven}
+use Rattle.numbers.specs.Roundings.{ceiling, signed, roundDown, roundUp, roundNearest, Down, Up, scaledDistance, NearestEven}
 use Rattle.numbers.proofs.TestLaws.{Cmp, cmp}
 
 -- ---- b times a whole number, and how far two are apart, by the parts
@@ -64,11 +64,11 @@ module _ {n : ℤ} {b : ℕ} {z : ℤ} where
             ∙ d .even (negℤ y) (λ q. ne (sym (negℤ-negℤ y) ∙ ap negℤ q)) (omega (arith, e, same (negℤ y), same z, twice y));
       }
     where
-      same : (y : ℤ) → distance (negℤ n) b (negℤ y) ≡ distance n b y
+      same : (y : ℤ) → scaledDistance (negℤ n) b (negℤ y) ≡ scaledDistance n b y
       same y = omega (arith, far (y *ℤ pos b) n, far (negℤ y *ℤ pos b) (negℤ n), times-parts y b, neg-times-parts y b, neg-parts n)
 
-      twice : (y : ℤ) → distance (negℤ n) b (negℤ (negℤ y)) ≡ distance (negℤ n) b y
-      twice y = ap (distance (negℤ n) b) (negℤ-negℤ y)
+      twice : (y : ℤ) → scaledDistance (negℤ n) b (negℤ (negℤ y)) ≡ scaledDistance (negℤ n) b y
+      twice y = ap (scaledDistance (negℤ n) b) (negℤ-negℤ y)
 
       abs-neg : (y : ℤ) → natAbs (negℤ y) ≡ natAbs y
       abs-neg y = omega (arith, abs-parts y, abs-parts (negℤ y), neg-parts y)
@@ -123,7 +123,7 @@ module _ (a b : ℕ) (B : 0 < b) where
       go Ordering·gt h = omega (arith, mul-le-mul-right b h, suc-mul n b)
 
   -- how far a number below 0 is
-  far-below : (m : ℕ) → distance (pos a) b (negsuc m) ≡ a + (m * b + b)
+  far-below : (m : ℕ) → scaledDistance (pos a) b (negsuc m) ≡ a + (m * b + b)
   far-below m = omega (arith, far (negsuc m *ℤ pos b) (pos a), times-parts (negsuc m) b, suc-mul m b, zero-mul b)
 
 -- ---- of a / b, among all whole numbers
@@ -154,15 +154,15 @@ module _ (a b : ℕ) (B : 0 < b) where
   nearest-plus : NearestEven (pos a) b (pos (closest a b))
   nearest-plus = record { nearest = near; even = tie }
     where
-      near : (y : ℤ) → distance (pos a) b (pos (closest a b)) ≤ distance (pos a) b y
+      near : (y : ℤ) → scaledDistance (pos a) b (pos (closest a b)) ≤ scaledDistance (pos a) b y
       near (negsuc m) = omega (arith, far-below a b B m, minus-size (closest a b * b) a, closest-law a b B)
       near (pos m) = go (ℕ-discrete m (closest a b))
         where
-          go : Dec (m ≡ closest a b) → distance (pos a) b (pos (closest a b)) ≤ distance (pos a) b (pos m)
+          go : Dec (m ≡ closest a b) → scaledDistance (pos a) b (pos (closest a b)) ≤ scaledDistance (pos a) b (pos m)
           go (yes e) = rw e (omega arith)
           go (no e) = omega (arith, minus-size (closest a b * b) a, minus-size (m * b) a, closest-law a b B, apart a b B m (closest a b) e)
 
-      tie : (y : ℤ) → (y ≡ pos (closest a b) → ⊥) → distance (pos a) b y ≡ distance (pos a) b (pos (closest a b)) → closest a b % 2 ≡ 0
+      tie : (y : ℤ) → (y ≡ pos (closest a b) → ⊥) → scaledDistance (pos a) b y ≡ scaledDistance (pos a) b (pos (closest a b)) → closest a b % 2 ≡ 0
       tie (negsuc m) ne e = absurd (omega (arith, e, far-below a b B m, minus-size (closest a b * b) a, closest-law a b B))
       tie (pos m) ne e =
           closest-even a b B

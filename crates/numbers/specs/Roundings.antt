@@ -43,10 +43,10 @@ pub record Up (n : ℤ) (b : ℕ) (z : ℤ) : Type 0 where
   pub least : (y : ℤ) → n ≤ℤ (y *ℤ pos b) → z ≤ℤ y
 
 -- b times the distance between y and n / b
-abbrev pub distance : ℤ → ℕ → ℤ → ℕ
-distance n b y = natAbs (y *ℤ pos b -ℤ n)
+abbrev pub scaledDistance : ℤ → ℕ → ℤ → ℕ
+scaledDistance n b y = natAbs (y *ℤ pos b -ℤ n)
 
 -- no whole number is nearer to n / b than z; if another one is as near, z is even
 pub record NearestEven (n : ℤ) (b : ℕ) (z : ℤ) : Type 0 where
-  pub nearest : (y : ℤ) → distance n b z ≤ distance n b y
-  pub even : (y : ℤ) → (y ≡ z → ⊥) → distance n b y ≡ distance n b z → natAbs z % 2 ≡ 0
+  pub nearest : (y : ℤ) → scaledDistance n b z ≤ scaledDistance n b y
+  pub even : (y : ℤ) → (y ≡ z → ⊥) → scaledDistance n b y ≡ scaledDistance n b z → natAbs z % 2 ≡ 0

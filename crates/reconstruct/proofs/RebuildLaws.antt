@@ -12,14 +12,14 @@ use Rattle.numbers.specs.Lists.{at, atℤ, sum}
 use Rattle.numbers.specs.Checks.{accepted}
 use Rattle.numbers.proofs.SumLaws.{sumTo-ext, sumTo-le}
 use Rattle.numbers.proofs.ListLaws.{listTo-ext}
-use Rattle.qlt.specs.Field.{Lists, Field, cells, field, sumCells, Outcome, attainable, below, above, outcomeBy, outcome, number, lowIn, highIn, changeOf}
-use Rattle.qlt.specs.Masses.{massBetween, treeMass, treeMasses}
-use Rattle.qlt.specs.Operation.{Call, Lengths, Fits, repair, RepairContract}
-use Rattle.qlt.proofs.FieldLaws.{force-room, force-order, force-safe-high}
-use Rattle.qlt.proofs.OperationLaws.{fits-valid}
-use Rattle.passes.specs.Solve.{massOf, Solvable, Solved}
-use Rattle.checks.proofs.CodeLaws.{outcome-is}
-use Rattle.reconstruct.specs.Rebuild.{lowList, highList, outcomeNumber, Rebuilt}
+use Rattle.qlt_spec.specs.Field.{Lists, Field, cells, field, sumCells, Outcome, attainable, below, above, outcomeBy, outcome, outcomeNumber, lowIn, highIn, changeOf}
+use Rattle.qlt_spec.specs.Masses.{massBetween, treeMass, treeMasses}
+use Rattle.qlt_spec.specs.Operation.{ReconstructCall, FieldLengths, ReconstructFits, repair, RepairContract}
+use Rattle.qlt_spec.proofs.FieldLaws.{force-room, force-order, force-safe-high}
+use Rattle.qlt_spec.proofs.OperationLaws.{fits-valid}
+use Rattle.solve_spec.specs.Solve.{massOf, Solvable, Solved}
+use Rattle.field_checks.proofs.CodeLaws.{outcome-is}
+use Rattle.reconstruct.specs.Rebuild.{lowList, highList, callOutcome, Rebuilt}
 
 -- ---- the bounds in force, as lists
 
@@ -35,12 +35,12 @@ high-is attainable f = refl
 high-is below f = refl
 high-is above f = refl
 
-low-long : (o : Outcome) (f : Lists) {k s : ℕ} → Lengths f k s → length (lowList o f) ≡ cells f
+low-long : (o : Outcome) (f : Lists) {k s : ℕ} → FieldLengths f k s → length (lowList o f) ≡ cells f
 low-long attainable f l = l .lows
 low-long below f l = l .safeLows
 low-long above f l = l .highs
 
-high-long : (o : Outcome) (f : Lists) {k s : ℕ} → Lengths f k s → length (highList o f) ≡ cells f
+high-long : (o : Outcome) (f : Lists) {k s : ℕ} → FieldLengths f k s → length (highList o f) ≡ cells f
 high-long attainable f l = l .highs
 high-long below f l = l .lows
 high-long above f l = l .safeHighs
@@ -51,14 +51,14 @@ sum-cells xs n e = ap (λ k. sumTo ℕ-adds k (at xs)) e
 
 -- ---- a call that fits, by its outcome o
 
-module _ (c : Call) (ok : Fits c) (o : Outcome) (e : outcome (field (c .lists)) (c .total) ≡ o) where
+module _ (c : ReconstructCall) (ok : ReconstructFits c) (o : Outcome) (e : outcome (field (c .lists)) (c .total) ≡ o) where
   abbrev pub f : Lists
   f = c .lists
 
   abbrev pub F : Field
   F = field (c .lists)
 
-  lens : Lengths f (length (c .masses)) (length (c .scratch))
+  lens : FieldLengths f (length (c .masses)) (length (c .scratch))
   lens = ok .shape .lengths
 
   lows-are : lowIn (outcome F (c .total)) F ≡ at (lowList o f)
@@ -123,31 +123,31 @@ module _ (c : Call) (ok : Fits c) (o : Outcome) (e : outcome (field (c .lists)) 
 
 -- ---- outcomes by their numbers
 
-pub number-0 : (o : Outcome) → 0 ≡ number o → o ≡ attainable
-unfolding number
+pub number-0 : (o : Outcome) → 0 ≡ outcomeNumber o → o ≡ attainable
+unfolding outcomeNumber
 number-0 attainable e = refl
 number-0 below e = absurd (omega arith)
 number-0 above e = absurd (omega arith)
 
-pub number-1 : (o : Outcome) → 1 ≡ number o → o ≡ below
-unfolding number
+pub number-1 : (o : Outcome) → 1 ≡ outcomeNumber o → o ≡ below
+unfolding outcomeNumber
 number-1 attainable e = absurd (omega arith)
 number-1 below e = refl
 number-1 above e = absurd (omega arith)
 
-pub number-2 : (o : Outcome) {x : ℕ} → x ≡ number o → x ≢ 0 → x ≢ 1 → o ≡ above
-unfolding number
+pub number-2 : (o : Outcome) {x : ℕ} → x ≡ outcomeNumber o → x ≢ 0 → x ≢ 1 → o ≡ above
+unfolding outcomeNumber
 number-2 attainable e p q = absurd (p e)
 number-2 below e p q = absurd (q e)
 number-2 above e p q = refl
 
 -- the outcome that the code finds is the call's
-pub outcome-found : (c : Call) → Fits c → {x : ℕ} → x ≡ number (outcomeBy (sum (c .lists .lows)) (sum (c .lists .highs)) (c .total)) → x ≡ outcomeNumber c
-outcome-found c ok e = let l = ok .shape .lengths in e ∙ ap number (outcome-is (c .lists) (c .total) (l .lows) (l .highs))
+pub outcome-found : (c : ReconstructCall) → ReconstructFits c → {x : ℕ} → x ≡ outcomeNumber (outcomeBy (sum (c .lists .lows)) (sum (c .lists .highs)) (c .total)) → x ≡ callOutcome c
+outcome-found c ok e = let l = ok .shape .lengths in e ∙ ap outcomeNumber (outcome-is (c .lists) (c .total) (l .lows) (l .highs))
 
 -- what is told of a call that was rebuilt
 pub repaired :
-    (c : Call) {x y : ℕ} {masses : List ℕ} {scratch : List ℤ} → x ≡ outcomeNumber c → Rebuilt c y masses scratch
+    (c : ReconstructCall) {x y : ℕ} {masses : List ℕ} {scratch : List ℤ} → x ≡ callOutcome c → Rebuilt c y masses scratch
     → RepairContract Pass c (accepted (record { outcome = x; total = c .total; change = y })) masses scratch
 unfolding repair
 repaired c e p =

@@ -4,9 +4,9 @@ use mathlib.Core.List.{List}
 use Prim.Native.Nat.{ℕ}
 use lib.IntN.{ℤ}
 use Rattle.numbers.specs.declared.Checked.the-variants.{Pass}
-use Rattle.qlt.specs.Field.{Lists, field, Outcome, attainable, below, above, outcome, number, changeOf}
-use Rattle.qlt.specs.Masses.{treeMass}
-use Rattle.qlt.specs.Operation.{Call, Leaves}
+use Rattle.qlt_spec.specs.Field.{Lists, field, Outcome, attainable, below, above, outcome, outcomeNumber, changeOf}
+use Rattle.qlt_spec.specs.Masses.{treeMass}
+use Rattle.qlt_spec.specs.Operation.{ReconstructCall, Leaves}
 
 -- the lists of the bounds in force
 abbrev pub lowList : Outcome → Lists → List ℕ
@@ -20,10 +20,10 @@ highList below f = f .lows
 highList above f = f .safeHighs
 
 -- 01's outcome of a call, as a number
-abbrev pub outcomeNumber : Call → ℕ
-outcomeNumber c = number (outcome (field (c .lists)) (c .total))
+abbrev pub callOutcome : ReconstructCall → ℕ
+callOutcome c = outcomeNumber (outcome (field (c .lists)) (c .total))
 
 -- the change, and what an accepted call leaves
-pub record Rebuilt (c : Call) (change : ℕ) (masses : List ℕ) (scratch : List ℤ) : Type 0 where
+pub record Rebuilt (c : ReconstructCall) (change : ℕ) (masses : List ℕ) (scratch : List ℤ) : Type 0 where
   pub moves : change ≡ changeOf (field (c .lists)) (treeMass (field (c .lists)) (c .total))
   pub leaves : Leaves Pass c masses scratch

@@ -1,12 +1,13 @@
-// The operation Reconstruct: the masses of a whole field for a total. Public: `reconstruct`; the checks and the work below it are in
-// modules of their own, for this crate alone. Relies on `solve`, `checks`, `passes`, `qlt`, `columns`, `caas` and `numbers`.
-ghost use Rattle.qlt.specs.Field.{lists};
-ghost use Rattle.qlt.specs.Operation.{call, ReconstructContract};
+// The operation Reconstruct: the masses of a whole field for a total. Public: `reconstruct`; for Step `repair`, what an accepted call does.
+// Relies on `solve`, `field_checks`, `solve_spec`, `qlt_spec` and `numbers`.
+ghost use Rattle.qlt_spec.specs.Field.{lists};
+ghost use Rattle.qlt_spec.specs.Operation.{reconstructCall, ReconstructContract};
 use numbers::Checked;
-use qlt::Reconstructed;
+use qlt_spec::Reconstructed;
 
-pub mod inner;
+pub mod repair;
 mod verdict;
+mod work;
 
 // Rebuilds the masses of the field's cells so that they add up to `total`, and writes them; the scratch's first rows, one for each node,
 // are 0 afterwards. A refused call writes nothing.
@@ -22,7 +23,13 @@ pub fn reconstruct(
     masses: &mut [u32],
     scratch: &mut [i64],
 ) -> Reconstructed
-    ensures { λ r. ⌜ ReconstructContract (call (lists (now (targets .entry)) (now (lows .entry)) (now (highs .entry)) (now («safe_lows» .entry)) (now («safe_highs» .entry)) (now (weights .entry)) (now (parents .entry))) total (now (masses .entry)) (now (scratch .entry))) r (now (masses .exit)) (now (scratch .exit)) ⌝ }
+    ensures { λ r.
+        ⌜ ReconstructContract
+        (reconstructCall
+        (lists (now (targets .entry)) (now (lows .entry)) (now (highs .entry)) (now («safe_lows» .entry)) (now («safe_highs» .entry))
+        (now (weights .entry)) (now (parents .entry)))
+        total (now (masses .entry)) (now (scratch .entry)))
+        r (now (masses .exit)) (now (scratch .exit)) ⌝ }
 {
     let verdict: Checked = verdict::verdict(
         targets,
@@ -36,7 +43,7 @@ pub fn reconstruct(
         masses,
         scratch,
     );
-    inner::reconstruct_by(
+    work::reconstruct_by(
         verdict,
         targets,
         lows,

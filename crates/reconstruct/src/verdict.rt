@@ -1,10 +1,10 @@
-// All of Reconstruct's checks. Relies on `checks`.
+// All of Reconstruct's checks. Relies on `field_checks`.
 ghost use mathlib.Core.Path.{_≡_};
-ghost use Rattle.qlt.specs.Field.{lists};
-ghost use Rattle.qlt.specs.Operation.{call, verdict};
-use checks::inner::check_reach;
-use checks::inner::check_shape;
-use checks::inner::check_values;
+ghost use Rattle.qlt_spec.specs.Field.{lists};
+ghost use Rattle.qlt_spec.specs.Operation.{reconstructCall, reconstructVerdict};
+use field_checks::shape::check_shape;
+use field_checks::total::check_reach;
+use field_checks::values::check_values;
 use numbers::Checked;
 
 // 1 to 3; 4 to 7; 8.
@@ -20,7 +20,12 @@ pub fn verdict(
     masses: &[u32],
     scratch: &[i64],
 ) -> Checked
-    ensures { λ r. ⌜ r ≡ verdict (call (lists (now (targets .entry)) (now (lows .entry)) (now (highs .entry)) (now («safe_lows» .entry)) (now («safe_highs» .entry)) (now (weights .entry)) (now (parents .entry))) total (now (masses .entry)) (now (scratch .entry))) ⌝ }
+    ensures { λ r.
+        ⌜ r ≡ reconstructVerdict
+        (reconstructCall
+        (lists (now (targets .entry)) (now (lows .entry)) (now (highs .entry)) (now («safe_lows» .entry)) (now («safe_highs» .entry))
+        (now (weights .entry)) (now (parents .entry)))
+        total (now (masses .entry)) (now (scratch .entry))) ⌝ }
 {
     let shape = check_shape(
         targets.len(),

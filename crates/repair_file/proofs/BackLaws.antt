@@ -1,6 +1,5 @@
 -- The field in the bytes of a field that a file can hold is that field, and the file's verdict is Reconstruct's. Assumes nothing.
 use mathlib.Core.Path.{_≡_, refl, sym, _∙_, ap}
-use mathlib.Core.List.{List}
 use Prim.Native.Nat.{ℕ, _*_}
 use native.Mathlib.Omega.{arith}
 use lib.IntN.{pos}
@@ -11,12 +10,12 @@ use Rattle.numbers.specs.Checks.{both}
 use Rattle.numbers.proofs.CheckLaws.{both-pass}
 use Rattle.numbers.proofs.ListLaws.{length-listTo}
 use Rattle.numbers.proofs.PartLaws.{front-written}
-use Rattle.qlt.specs.Field.{Lists, cells, nodes, scratchPerNode}
-use Rattle.qlt.specs.Operation.{call, verdict}
-use Rattle.formats.specs.FieldFile.{fieldBytes}
-use Rattle.formats.specs.ReadField.{Room, Sizes, fileCells, fileNodes, fileTotal}
-use Rattle.formats.specs.Stored.{Storable, FieldBack}
-use Rattle.formats.proofs.BackLaws.{field-back}
+use Rattle.qlt_spec.specs.Field.{Lists, cells, nodes, scratchPerNode}
+use Rattle.qlt_spec.specs.Operation.{reconstructCall, reconstructVerdict}
+use Rattle.files_spec.specs.FieldFile.{fieldBytes}
+use Rattle.files_spec.specs.ReadField.{Room, Sizes, fileCells, fileNodes, fileTotal}
+use Rattle.files_spec.specs.Stored.{Storable, FieldBack}
+use Rattle.files_spec.proofs.BackLaws.{field-back}
 use Rattle.repair_file.specs.RepairFile.{largest, fileLists, fileCall, fileVerdict}
 use Rattle.repair_file.proofs.FileLaws.{fronts-read}
 
@@ -73,9 +72,9 @@ stored-lists f M g = (same-lists f M g, (same-cells f M g, (same-nodes f M g, sa
 
 pub stored-verdict :
     (f : Lists) (M : ℕ) → Storable f M
-    → fileVerdict (fieldBytes f M) ≡ verdict (call f M (listTo (cells f) (λ i. 0)) (listTo (scratchPerNode * nodes f) (λ i. pos 0)))
+    → fileVerdict (fieldBytes f M) ≡ reconstructVerdict (reconstructCall f M (listTo (cells f) (λ i. 0)) (listTo (scratchPerNode * nodes f) (λ i. pos 0)))
 unfolding fileVerdict
 stored-verdict f M g =
-    ap (λ x. both x (both (verdict (fileCall (fieldBytes f M))) Pass)) (back f M g .passes)
-    ∙ both-pass (verdict (fileCall (fieldBytes f M)))
+    ap (λ x. both x (both (reconstructVerdict (fileCall (fieldBytes f M))) Pass)) (back f M g .passes)
+    ∙ both-pass (reconstructVerdict (fileCall (fieldBytes f M)))
     ∙ rw (same-lists f M g, same-cells f M g, same-nodes f M g, same-total f M g)

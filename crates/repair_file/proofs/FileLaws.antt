@@ -2,7 +2,7 @@
 -- contract alone says of a call. Assumes nothing.
 use mathlib.Core.Path.{_≡_, refl, sym, _∙_, ap}
 use mathlib.Core.List.{List, _++_}
-use Prim.Native.Nat.{ℕ, _+_, _*_, _-_, _≤_, _<_}
+use Prim.Native.Nat.{ℕ, _*_, _-_, _≤_, _<_}
 use native.Mathlib.Nat.{sub-zero}
 use native.Mathlib.Omega.{arith}
 use lib.IntN.{ℤ, pos}
@@ -16,19 +16,19 @@ use Rattle.numbers.specs.Checks.{answered, after, both}
 use Rattle.numbers.proofs.CheckLaws.{both-first, both-pass, answered-accepted, answered-refused}
 use Rattle.numbers.proofs.ListLaws.{length-listTo}
 use Rattle.numbers.proofs.PartLaws.{put-back, front-written}
-use Rattle.qlt.specs.declared.Repair.{Repair}
-use Rattle.qlt.specs.declared.Reconstructed.{Reconstructed}
-use Rattle.qlt.specs.Field.{Lists, nodes, scratchPerNode, field}
-use Rattle.qlt.specs.Masses.{treeMass, treeMasses}
-use Rattle.qlt.specs.Checks.{checkLists, checkShape}
-use Rattle.qlt.specs.Operation.{call, verdict, repair, tells, cleared, ReconstructContract}
-use Rattle.formats.specs.declared.FieldRead.{FieldRead}
-use Rattle.formats.specs.declared.FieldRead.the-variants as read
-use Rattle.formats.specs.ReadField.{fileCells, fileNodes, fileTotal, headVerdict, readVerdict, ReadFits, listsRead, ReadContract}
-use Rattle.formats.proofs.ReadLaws.{read-done, read-refused, read-accepts}
+use Rattle.qlt_spec.specs.declared.Repair.{Repair}
+use Rattle.qlt_spec.specs.declared.Reconstructed.{Reconstructed}
+use Rattle.qlt_spec.specs.Field.{Lists, nodes, scratchPerNode, field}
+use Rattle.qlt_spec.specs.Masses.{treeMass, treeMasses}
+use Rattle.qlt_spec.specs.Checks.{checkLists, checkShape}
+use Rattle.qlt_spec.specs.Operation.{reconstructCall, reconstructVerdict, repair, reconstructTells, cleared, ReconstructContract}
+use Rattle.files_spec.specs.declared.FieldRead.{FieldRead}
+use Rattle.files_spec.specs.declared.FieldRead.the-variants as read
+use Rattle.files_spec.specs.ReadField.{fileCells, fileNodes, fileTotal, headVerdict, readVerdict, ReadFits, listsRead, ReadContract}
+use Rattle.files_spec.proofs.ReadLaws.{read-done, read-refused, read-accepts}
 use Rattle.repair_file.specs.declared.FileRepaired.{FileRepaired}
 use Rattle.repair_file.specs.declared.FileRepaired.the-variants.{Done, Refused}
-use Rattle.repair_file.specs.RepairFile.{largest, fileLists, fileCall, fileVerdict, fileRepair, fileMasses, Repaired, repairedOf, fileTells, RepairsFile, fronts, frontCall, beside, RepairsFronts}
+use Rattle.repair_file.specs.RepairFile.{largest, fileLists, fileCall, fileVerdict, fileRepair, fileMasses, FileRepair, repairedOf, fileTells, RepairsFile, fronts, frontCall, beside, RepairsFronts}
 
 -- ---- verdicts go by lengths
 
@@ -66,8 +66,8 @@ read-largest file s r =
 pub verdict-lengths :
     (f : Lists) (M : ℕ) (masses masses′ : List ℕ) (scratch scratch′ : List ℤ)
     → length masses ≡ length masses′ → scratchPerNode * nodes f ≤ length scratch → scratchPerNode * nodes f ≤ length scratch′
-    → verdict (call f M masses scratch) ≡ verdict (call f M masses′ scratch′)
-unfolding verdict checkShape checkLists
+    → reconstructVerdict (reconstructCall f M masses scratch) ≡ reconstructVerdict (reconstructCall f M masses′ scratch′)
+unfolding reconstructVerdict checkShape checkLists
 verdict-lengths f M masses masses′ scratch scratch′ e h h′ = rw (e, le-leb _ _ h, le-leb _ _ h′)
 
 -- ---- the front of a list
@@ -111,13 +111,13 @@ back (Fail number place) n masses part new h e = rw (e, sub-zero) (take-append-d
 
 pub fronts-repaired :
     (n m M : ℕ) (s : Lists) (masses part : List ℕ) (scratch scratch′ : List ℤ) (a : Reconstructed) (r : FileRepaired) → n ≤ length (s .targets)
-    → ReconstructContract (frontCall n m M s masses scratch) a part scratch′ → fileTells r ≡ beside n (tells a)
+    → ReconstructContract (frontCall n m M s masses scratch) a part scratch′ → fileTells r ≡ beside n (reconstructTells a)
     → RepairsFronts n m M s masses scratch r (part ++ drop (n - 0) masses) scratch′
 unfolding treeMasses
 fronts-repaired n m M s masses part scratch scratch′ a r h p e =
     record {
       answers = e ∙ ap (beside n) (p .answers);
-      writes = back (verdict (frontCall n m M s masses scratch)) n masses part (treeMasses (field (fronts n m s)) M) (length-listTo _ _ ∙ length-take-le n (s .targets) h) (p .leaves .writes);
+      writes = back (reconstructVerdict (frontCall n m M s masses scratch)) n masses part (treeMasses (field (fronts n m s)) M) (length-listTo _ _ ∙ length-take-le n (s .targets) h) (p .leaves .writes);
       leaves = p .leaves .clears;
     }
 
@@ -127,11 +127,11 @@ module _ (file : List ℕ) (s : Lists) (roomy : Roomy s) where
   -- the verdict of a file that is refused by reading, and of one that is read
   unread-verdict : {number place : ℕ} → readVerdict file s ≡ Fail number place → fileVerdict file ≡ Fail number place
   unfolding fileVerdict
-  unread-verdict e = ap (λ x. both x (both (verdict (fileCall file)) Pass)) (sym (read-largest file s roomy) ∙ e)
+  unread-verdict e = ap (λ x. both x (both (reconstructVerdict (fileCall file)) Pass)) (sym (read-largest file s roomy) ∙ e)
 
-  read-verdict : readVerdict file s ≡ Pass → fileVerdict file ≡ verdict (fileCall file)
+  read-verdict : readVerdict file s ≡ Pass → fileVerdict file ≡ reconstructVerdict (fileCall file)
   unfolding fileVerdict
-  read-verdict e = ap (λ x. both x (both (verdict (fileCall file)) Pass)) (sym (read-largest file s roomy) ∙ e) ∙ both-pass (verdict (fileCall file))
+  read-verdict e = ap (λ x. both x (both (reconstructVerdict (fileCall file)) Pass)) (sym (read-largest file s roomy) ∙ e) ∙ both-pass (reconstructVerdict (fileCall file))
 
   reads-by : {r : FieldRead} {t : Lists} → ReadContract file s r t → t ≡ after (readVerdict file largest) (listsRead file s) s
   reads-by p = p .writes ∙ ap (λ x. after x (listsRead file s) s) (read-largest file s roomy)
@@ -156,13 +156,13 @@ module _ (file : List ℕ) (s : Lists) (roomy : Roomy s) where
     same-lists = let e = read-done p .1 in rw (e .0, e .1 .0, e .1 .1 .1) (fronts-read file s)
 
     module _ (masses : List ℕ) (scratch : List ℤ) (few : length masses ≡ 512) (wide : length scratch ≡ 6144) where
-      same-verdict : verdict (frontCall n m M t masses scratch) ≡ fileVerdict file
+      same-verdict : reconstructVerdict (frontCall n m M t masses scratch) ≡ fileVerdict file
       same-verdict =
           let e = read-done p .1 in
           let z : scratchPerNode * nodes (fileLists file) ≤ 6144 = omega (arith, length-nodes file, fit .head .nodes-few) in
           let l : length (take n masses) ≡ fileCells file = length-take-le n masses (omega (arith, e .0, fit .head .few)) ∙ e .0 in
-          ap (λ f. verdict (call f M (take n masses) scratch)) same-lists
-          ∙ ap (λ k. verdict (call (fileLists file) k (take n masses) scratch)) (e .1 .1 .0)
+          ap (λ f. reconstructVerdict (reconstructCall f M (take n masses) scratch)) same-lists
+          ∙ ap (λ k. reconstructVerdict (reconstructCall (fileLists file) k (take n masses) scratch)) (e .1 .1 .0)
           ∙ verdict-lengths (fileLists file) (fileTotal file) (take n masses) (listTo (fileCells file) (λ i. 0)) scratch (listTo (scratchPerNode * fileNodes file) (λ i. pos 0)) (l ∙ sym (length-listTo (fileCells file) (λ i. 0))) (omega arith) (omega (arith, length-nodes file, length-listTo (scratchPerNode * fileNodes file) (λ i. pos 0)))
           ∙ sym (read-verdict (read-accepts file s .1 fit))
 
@@ -202,14 +202,14 @@ module _ {file : List ℕ} {s t : Lists} {masses masses′ : List ℕ} {scratch 
   unfolding fileTells fileVerdict
   file-done {n} {r} p =
       let e = answered-accepted (fileVerdict file) (record { cells = n; repair = r }) (repairedOf file) (p .answers) in
-      let c : n ≡ fileCells file = ap (λ (z : Repaired). z .cells) (e .1) in
+      let c : n ≡ fileCells file = ap (λ (z : FileRepair). z .cells) (e .1) in
       let v : readVerdict file largest ≡ Pass = both-first _ _ (e .0) in
       let f = read-accepts file largest .0 v .head in
       let l = fronts-read file s in
       record {
         accepts = e .0;
         cells = c;
-        repair = ap (λ (z : Repaired). z .repair) (e .1);
+        repair = ap (λ (z : FileRepair). z .repair) (e .1);
         some = omega (arith, c, f .some);
         few = omega (arith, c, f .few);
         masses = rw (p .writes, e .0, c, masses-are file) (front masses (fileCells file) _);

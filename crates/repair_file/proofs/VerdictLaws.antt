@@ -1,16 +1,16 @@
 -- What the verdict of a file means: reading's rules, then Reconstruct's; and which numbers it refuses with. Assumes nothing.
-use mathlib.Core.Path.{_≡_, refl, sym, ap, subst}
-use mathlib.Core.Logic.{⊎-elim, inl, inr, _↔_}
-use mathlib.Core.List.{List, [], _∷_, _++_}
+use mathlib.Core.Path.{_≡_, refl, sym, subst}
+use mathlib.Core.Logic.{_↔_}
+use mathlib.Core.List.{List, [], _∷_}
 use Prim.Native.Nat.{ℕ}
 use Rattle.numbers.specs.declared.Checked.the-variants.{Pass, Fail}
-use Rattle.numbers.specs.Checks.{both, DecidesAll, Broken, numbersOf, OneOf, RefuseWith}
+use Rattle.numbers.specs.Checks.{both, DecidesAll, Broken, RefuseWith}
 use Rattle.numbers.proofs.CheckLaws.{on, last, both-first, both-second, both-pass, decides-append}
-use Rattle.numbers.proofs.ChainLaws.{refuse-with, refuse-append}
-use Rattle.qlt.specs.Operation.{verdict, rules}
-use Rattle.qlt.proofs.OperationLaws.{verdict-decides, accepts, reconstruct-numbers}
-use Rattle.formats.specs.ReadField.{readVerdict, readRules}
-use Rattle.formats.proofs.ReadLaws.{read-decides, read-accepts, read-numbers}
+use Rattle.numbers.proofs.ChainLaws.{refuse-append}
+use Rattle.qlt_spec.specs.Operation.{reconstructVerdict, reconstructRules}
+use Rattle.qlt_spec.proofs.OperationLaws.{reconstruct-decides, reconstruct-accepts, reconstruct-numbers}
+use Rattle.files_spec.specs.ReadField.{readVerdict, readRules}
+use Rattle.files_spec.proofs.ReadLaws.{read-decides, read-accepts, read-numbers}
 use Rattle.repair_file.specs.RepairFile.{largest, fileCall, fileVerdict, fileRules, FileFits}
 
 module _ (file : List ℕ) where
@@ -18,8 +18,8 @@ module _ (file : List ℕ) where
   pub file-decides : DecidesAll (fileVerdict file) (fileRules file)
   unfolding fileVerdict
   file-decides =
-      decides-append (readVerdict file largest) (both (verdict (fileCall file)) Pass) (readRules file largest) (rules (fileCall file)) (read-decides file largest)
-      (subst (λ v. DecidesAll v (rules (fileCall file))) (sym (both-pass (verdict (fileCall file)))) (verdict-decides (fileCall file)))
+      decides-append (readVerdict file largest) (both (reconstructVerdict (fileCall file)) Pass) (readRules file largest) (reconstructRules (fileCall file)) (read-decides file largest)
+      (subst (λ v. DecidesAll v (reconstructRules (fileCall file))) (sym (both-pass (reconstructVerdict (fileCall file)))) (reconstruct-decides (fileCall file)))
 
   pub file-refuses : (number place : ℕ) → (fileVerdict file ≡ Fail number place) ↔ Broken (fileRules file) number place
   file-refuses = file-decides .fails
@@ -30,11 +30,11 @@ module _ (file : List ℕ) where
     λ e.
         record {
           read = read-accepts file largest .0 (both-first (readVerdict file largest) _ e);
-          repair = accepts (fileCall file) .0 (both-first (verdict (fileCall file)) Pass (both-second (readVerdict file largest) _ e));
+          repair = reconstruct-accepts (fileCall file) .0 (both-first (reconstructVerdict (fileCall file)) Pass (both-second (readVerdict file largest) _ e));
         },
-    λ f. sym (on (read-accepts file largest .1 (f .read)) (last (verdict (fileCall file)) (sym (accepts (fileCall file) .1 (f .repair))))),
+    λ f. sym (on (read-accepts file largest .1 (f .read)) (last (reconstructVerdict (fileCall file)) (sym (reconstruct-accepts (fileCall file) .1 (f .repair))))),
   )
 
   -- it refuses with 01's numbers and no others
   pub file-numbers : RefuseWith (fileRules file) (14 ∷ 15 ∷ 16 ∷ 1 ∷ 2 ∷ 3 ∷ 4 ∷ 5 ∷ 6 ∷ 7 ∷ 8 ∷ [])
-  file-numbers = refuse-append (readRules file largest) (rules (fileCall file)) _ _ _ (read-numbers file largest) (reconstruct-numbers (fileCall file)) refl refl
+  file-numbers = refuse-append (readRules file largest) (reconstructRules (fileCall file)) _ _ _ (read-numbers file largest) (reconstruct-numbers (fileCall file)) refl refl

@@ -7,13 +7,13 @@ use lib.ListN.{take}
 use Rattle.numbers.specs.declared.Checked.{Checked}
 use Rattle.numbers.specs.Lists.{listTo, written}
 use Rattle.numbers.specs.Checks.{Answered, accepted, refused, answered, after, first, Rule}
-use Rattle.qlt.specs.declared.Repair.{Repair}
-use Rattle.qlt.specs.Field.{Lists, lists, nodes, scratchPerNode, field}
-use Rattle.qlt.specs.Masses.{treeMasses}
-use Rattle.qlt.specs.Operation.{Call, call, verdict, rules, Fits, repair, cleared}
+use Rattle.qlt_spec.specs.declared.Repair.{Repair}
+use Rattle.qlt_spec.specs.Field.{Lists, lists, nodes, scratchPerNode, field}
+use Rattle.qlt_spec.specs.Masses.{treeMasses}
+use Rattle.qlt_spec.specs.Operation.{ReconstructCall, reconstructCall, reconstructVerdict, reconstructRules, ReconstructFits, repair, cleared}
 use Rattle.blocks.specs.Words.{wordSigned}
-use Rattle.formats.specs.FieldFile.{cellWord, parentWord}
-use Rattle.formats.specs.ReadField.{fileCells, fileNodes, fileTotal, readVerdict, readRules, ReadFits, listsRead}
+use Rattle.files_spec.specs.FieldFile.{cellWord, parentWord}
+use Rattle.files_spec.specs.ReadField.{fileCells, fileNodes, fileTotal, readVerdict, readRules, ReadFits, listsRead}
 use Rattle.repair_file.specs.declared.FileRepaired.{FileRepaired}
 use Rattle.repair_file.specs.declared.FileRepaired.the-variants.{Done, Refused}
 
@@ -35,23 +35,23 @@ fileLists file =
     (listTo (fileNodes file) (parentWord file (fileCells file)))
 
 -- Reconstruct's call for it: masses for each cell, and as much scratch as is asked for
-abbrev pub fileCall : List ℕ → Call
-fileCall file = call (fileLists file) (fileTotal file) (listTo (fileCells file) (λ i. 0)) (listTo (scratchPerNode * fileNodes file) (λ i. pos 0))
+abbrev pub fileCall : List ℕ → ReconstructCall
+fileCall file = reconstructCall (fileLists file) (fileTotal file) (listTo (fileCells file) (λ i. 0)) (listTo (scratchPerNode * fileNodes file) (λ i. pos 0))
 
 -- reading, then Reconstruct, each in its order
 abbrev pub fileChecks : List ℕ → List Checked
-fileChecks file = readVerdict file largest ∷ verdict (fileCall file) ∷ []
+fileChecks file = readVerdict file largest ∷ reconstructVerdict (fileCall file) ∷ []
 
 unfoldable pub fileVerdict : List ℕ → Checked
 fileVerdict file = first (fileChecks file)
 
 -- what they mean
 abbrev pub fileRules : List ℕ → List Rule
-fileRules file = readRules file largest ++ rules (fileCall file)
+fileRules file = readRules file largest ++ reconstructRules (fileCall file)
 
 pub record FileFits (file : List ℕ) : Type 0 where
   pub read : ReadFits file largest
-  pub repair : Fits (fileCall file)
+  pub repair : ReconstructFits (fileCall file)
 
 -- what an accepted file gives
 unfoldable pub fileRepair : List ℕ → Repair
@@ -61,14 +61,14 @@ unfoldable pub fileMasses : List ℕ → List ℕ
 fileMasses file = treeMasses (field (fileLists file)) (fileTotal file)
 
 -- the number of cells beside it
-pub record Repaired : Type 0 where
+pub record FileRepair : Type 0 where
   pub cells : ℕ
   pub repair : Repair
 
-abbrev pub repairedOf : List ℕ → Repaired
+abbrev pub repairedOf : List ℕ → FileRepair
 repairedOf file = record { cells = fileCells file; repair = fileRepair file }
 
-unfoldable pub fileTells : FileRepaired → Answered Repaired
+unfoldable pub fileTells : FileRepaired → Answered FileRepair
 fileTells (Done n r) = accepted (record { cells = n; repair = r })
 fileTells (Refused number place) = refused number place
 
@@ -86,16 +86,16 @@ abbrev pub fronts : ℕ → ℕ → Lists → Lists
 fronts n m s =
     lists (take n (s .targets)) (take n (s .lows)) (take n (s .highs)) (take n (s .safeLows)) (take n (s .safeHighs)) (take n (s .weights)) (take m (s .parents))
 
-abbrev pub frontCall : ℕ → ℕ → ℕ → Lists → List ℕ → List ℤ → Call
-frontCall n m M s masses scratch = call (fronts n m s) M (take n masses) scratch
+abbrev pub frontCall : ℕ → ℕ → ℕ → Lists → List ℕ → List ℤ → ReconstructCall
+frontCall n m M s masses scratch = reconstructCall (fronts n m s) M (take n masses) scratch
 
 -- what Reconstruct tells, with the number of cells beside it
-abbrev pub beside : ℕ → Answered Repair → Answered Repaired
+abbrev pub beside : ℕ → Answered Repair → Answered FileRepair
 beside n (accepted r) = accepted (record { cells = n; repair = r })
 beside n (refused number place) = refused number place
 
 -- what the code leaves: the masses are those of the front of their list
 pub record RepairsFronts (n m M : ℕ) (s : Lists) (masses : List ℕ) (scratch : List ℤ) (answer : FileRepaired) (masses′ : List ℕ) (scratch′ : List ℤ) : Type 0 where
-  pub answers : fileTells answer ≡ beside n (answered (verdict (frontCall n m M s masses scratch)) (repair (fronts n m s) M))
-  pub writes : masses′ ≡ after (verdict (frontCall n m M s masses scratch)) (written masses 0 (treeMasses (field (fronts n m s)) M)) masses
-  pub leaves : scratch′ ≡ after (verdict (frontCall n m M s masses scratch)) (cleared (scratchPerNode * nodes (fronts n m s)) scratch) scratch
+  pub answers : fileTells answer ≡ beside n (answered (reconstructVerdict (frontCall n m M s masses scratch)) (repair (fronts n m s) M))
+  pub writes : masses′ ≡ after (reconstructVerdict (frontCall n m M s masses scratch)) (written masses 0 (treeMasses (field (fronts n m s)) M)) masses
+  pub leaves : scratch′ ≡ after (reconstructVerdict (frontCall n m M s masses scratch)) (cleared (scratchPerNode * nodes (fronts n m s)) scratch) scratch

@@ -1,6 +1,6 @@
-// From a field file's bytes to its repaired masses, for the call from C and the report: what that is, and in `inner` the code. No
-// operation stands here. Relies on `field_file`, `formats`, `reconstruct`, `qlt` and `numbers`.
-use qlt::Repair;
+// From a field file's bytes to its repaired masses, for the call from C and the report: what that is, and in `repair` the code. No
+// operation stands here. Relies on `field_file`, `files_spec`, `blocks`, `reconstruct`, `qlt_spec` and `numbers`.
+use qlt_spec::Repair;
 
 // What a file gives: its number of cells and what is told of the repair, the masses being written; or the refusal.
 pub enum FileRepaired {
@@ -8,4 +8,4 @@ pub enum FileRepaired {
     Refused { number: u32, place: u32 },
 }
 
-pub mod inner;
+pub mod repair;

@@ -6,7 +6,7 @@ use native.Mathlib.Nat.{sub-zero}
 use lib.IntN.{ℤ}
 use lib.ListN.{length, take}
 use Rattle.numbers.specs.declared.Checked.the-variants.{Fail}
-use Rattle.qlt.specs.declared.Repair.{Repair}
+use Rattle.qlt_spec.specs.declared.Repair.{Repair}
 use Rattle.text.specs.Text.{refusalLine}
 use Rattle.listing.specs.Listing.{listing}
 use Rattle.repair_file.specs.RepairFile.{fileVerdict}

@@ -3,7 +3,7 @@ use mathlib.Core.List.{List}
 use Prim.Native.Nat.{ℕ}
 use Rattle.numbers.specs.declared.Checked.{Checked}
 use Rattle.numbers.specs.declared.Checked.the-variants.{Pass, Fail}
-use Rattle.formats.specs.ReadField.{fileCells}
+use Rattle.files_spec.specs.ReadField.{fileCells}
 use Rattle.text.specs.declared.Reported.{Reported}
 use Rattle.text.specs.Text.{refusalLine}
 use Rattle.text.specs.Reports.{Reports}

@@ -3,16 +3,16 @@ ghost use mathlib.Core.Path.{_≡_};
 ghost use Prim.Native.Nat.{ℕ, _*_, _≤_, _<_};
 ghost use lib.ListN.{length};
 ghost use Rattle.numbers.specs.Lists.{at};
-ghost use Rattle.columns.specs.Columns.{width, FIRST, num};
-ghost use Rattle.qlt.specs.Tree.{Valid};
-ghost use Rattle.passes.specs.Descent.{Linked, SameData, Descending, Descended};
+ghost use Rattle.scratch_spec.specs.Columns.{width, FIRST, num};
+ghost use Rattle.qlt_spec.specs.Tree.{Valid};
+ghost use Rattle.solve_spec.specs.Descent.{Linked, SameData, Descending, Descended};
 use crate::load::wide;
-use columns::FIRST;
-use columns::NEXT;
-use numbers::inner::stored_index;
-use walks::inner::get;
-use walks::inner::put;
-use walks::inner::split_group;
+use numbers::arith::stored_index;
+use scratch_spec::FIRST;
+use scratch_spec::NEXT;
+use walks::columns::get_above;
+use walks::columns::put;
+use walks::group::split_group;
 
 // Chains each node's children in rising number: FIRST is its first child, NEXT a child's next sibling, m is none.
 pub fn link(parents: &[u32], m: usize, s: &mut [i64])
@@ -28,7 +28,7 @@ pub fn link(parents: &[u32], m: usize, s: &mut [i64])
     while 0 < u {
         u -= 1;
         let parent = wide(parents[u]);
-        let first = get(s, FIRST, parent);
+        let first = get_above(s, FIRST, parent);
         put(s, NEXT, u, first);
         put(s, FIRST, parent, stored_index(u));
     }

@@ -10,18 +10,18 @@ ghost use mir.Syntax.{w64};
 ghost use mir.Val.{SFits};
 ghost use Rattle.numbers.specs.Sums.{ℕ-adds, sumTo};
 ghost use Rattle.numbers.specs.Lists.{at, atℤ, listTo};
-ghost use Rattle.columns.specs.Columns.{width, MASS, col, num, InRow, Stored, Laid};
-ghost use Rattle.qlt.specs.Tree.{Valid};
-ghost use Rattle.qlt.specs.Operation.{cleared};
-ghost use Rattle.passes.specs.Gather.{Gathering, Loaded, Targets};
-use columns::MASS;
-use numbers::inner::magnitude;
-use numbers::inner::minus;
-use numbers::inner::narrow;
-use walks::inner::get;
-use walks::inner::get_signed;
-use walks::inner::put;
-use walks::inner::put_signed;
+ghost use Rattle.scratch_spec.specs.Columns.{width, MASS, col, num, InRow, Stored, Laid};
+ghost use Rattle.qlt_spec.specs.Tree.{Valid};
+ghost use Rattle.qlt_spec.specs.Operation.{cleared};
+ghost use Rattle.solve_spec.specs.Gather.{Gathering, Loaded, Targets};
+use numbers::arith::magnitude;
+use numbers::arith::minus;
+use numbers::arith::narrow;
+use scratch_spec::MASS;
+use walks::columns::get_above;
+use walks::columns::get_signed;
+use walks::columns::put;
+use walks::columns::put_signed;
 
 // A node's number as an index, a cell's value in 64 bits, and a mass back in 32.
 pub fn wide(x: u32) -> usize
@@ -122,7 +122,9 @@ pub fn load(parents: &[u32], xs: &[u32], m: usize, k: usize, s: &mut [i64])
     requires { ⌜ Valid (at (now parents)) (length (now xs)) m ⌝ }
     requires { ⌜ (width * m ≤ length (now s)) × (k < 6) ⌝ }
     requires { ⌜ sumTo ℕ-adds (length (now xs)) (at (now xs)) < 2 ^ 31 ⌝ }
-    ensures { λ _. ⌜ Loaded (at (now (parents .entry))) (length (now (xs .entry))) m k (λ c. pos (at (now (xs .entry)) c)) (now (s .entry)) (now (s .exit)) ⌝ }
+    ensures { λ _.
+        ⌜ Loaded (at (now (parents .entry))) (length (now (xs .entry))) m k (λ c. pos (at (now (xs .entry)) c)) (now (s .entry))
+        (now (s .exit)) ⌝ }
 {
     fill(s, k, xs, m);
     gather(parents, xs.len(), m, k, s);
@@ -148,7 +150,7 @@ pub fn take_out(s: &[i64], masses: &mut [u32])
 {
     let mut u: usize = 0;
     while u < masses.len() {
-        masses[u] = narrow(get(s, MASS, u));
+        masses[u] = narrow(get_above(s, MASS, u));
         u += 1;
     }
 }
@@ -175,7 +177,8 @@ fn off(mass: u32, target: i32) -> u64
 // The sum of that over all cells.
 pub fn change(masses: &[u32], targets: &[i32]) -> u64
     requires { ⌜ (length (now masses) ≡ length (now targets)) × (length (now masses) ≤ 512) ⌝ }
-    ensures { λ r. ⌜ r ≡ sumTo ℕ-adds (length (now (masses .entry))) (λ c. natAbs (pos (at (now (masses .entry)) c) -ℤ atℤ (now (targets .entry)) c)) ⌝ }
+    ensures { λ r.
+        ⌜ r ≡ sumTo ℕ-adds (length (now (masses .entry))) (λ c. natAbs (pos (at (now (masses .entry)) c) -ℤ atℤ (now (targets .entry)) c)) ⌝ }
 {
     let mut sum: u64 = 0;
     let mut c: usize = 0;

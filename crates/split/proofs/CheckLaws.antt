@@ -1,7 +1,7 @@
 -- Laws for Split's checks in code: lengths, chains, and sums that stop at 2 ^ 31. Assumes nothing.
 use mathlib.Core.Path.{_≡_, refl, sym, _∙_, ap}
 use mathlib.Core.Bool.{Bool, _&&_}
-use mathlib.Core.List.{List, [], _∷_, _++_}
+use mathlib.Core.List.{List}
 use Prim.Native.Nat.{ℕ, _^_, _≤_, _<_, min}
 use native.Mathlib.Omega.{arith}
 use native.Mathlib.Decide.{decLe}
@@ -13,17 +13,16 @@ use lib.ListN.{length}
 use mir.Syntax.{w64}
 use mir.Val.{toZ, ofZ}
 use mir.ValLaws.{toZ-pos}
-use Rattle.numbers.specs.declared.Checked.{Checked}
 use Rattle.numbers.specs.declared.Checked.the-variants.{Pass}
 use Rattle.numbers.specs.Lists.{atℤ}
 use Rattle.numbers.specs.Signed.{over}
-use Rattle.numbers.specs.Checks.{unless, both, first, everyFrom, checkLength, maxTotal}
+use Rattle.numbers.specs.Checks.{unless, both, everyFrom, checkLength, maxTotal}
 use Rattle.numbers.proofs.TestLaws.{Tested, holds, fails, tested}
-use Rattle.numbers.proofs.CheckLaws.{both-assoc, then-length, every-means}
+use Rattle.numbers.proofs.CheckLaws.{then-length, every-means}
 use Rattle.numbers.proofs.SumLaws.{sumTo-over, sumTo-le}
 use Rattle.numbers.proofs.SignedLaws.{signed, from-zero, le-parts, leZ-means}
-use Rattle.caas.specs.Operation.{sumℤ, checkLengths, checkOrder, checkHighs}
-use Rattle.caas.proofs.OperationLaws.{order-decides, highs-decides}
+use Rattle.caas_spec.specs.Operation.{sumℤ, checkLengths, checkSplitOrder, checkHighs}
+use Rattle.caas_spec.proofs.OperationLaws.{split-order-decides, highs-decides}
 use Rattle.split.specs.Sums.{sumOver, NonNegative, Summable}
 
 -- four lengths, each checked with the number 3, are one check of all
@@ -34,11 +33,6 @@ lengths-is n l h w m =
   where
     last : checkLength m n ≡ unless (eqb m n) 3 0
     last = unfold checkLength in refl
-
--- one chain after another
-pub first-append : (vs ws : List Checked) → first (vs ++ ws) ≡ both (first vs) (first ws)
-first-append [] ws = refl
-first-append (v ∷ vs) ws = ap (both v) (first-append vs ws) ∙ sym (both-assoc v (first vs) (first ws))
 
 -- the sum of numbers none of which is below 0
 pub sum-is : (xs : List ℤ) → NonNegative xs → sumℤ (length xs) xs ≡ pos (sumOver xs)
@@ -77,9 +71,9 @@ read-sum xs r z h e f =
 
 -- ---- what checks that passed leave to those after them
 
-module _ (lows highs : List ℤ) (same : length highs ≡ length lows) (passed : checkOrder (length lows) lows highs ≡ Pass) where
+module _ (lows highs : List ℤ) (same : length highs ≡ length lows) (passed : checkSplitOrder (length lows) lows highs ≡ Pass) where
   ordered : (u : ℕ) → u < length lows → (pos 0 ≤ℤ atℤ lows u) × (atℤ lows u ≤ℤ atℤ highs u)
-  ordered = order-decides (length lows) lows highs .passes .0 passed
+  ordered = split-order-decides (length lows) lows highs .passes .0 passed
 
   pub lows-nonnegative : NonNegative lows
   lows-nonnegative = record { at = λ u l. ordered u l .0 }

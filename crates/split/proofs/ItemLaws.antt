@@ -12,16 +12,16 @@ use lib.ListN.{length}
 use Rattle.numbers.specs.Lists.{atℤ, listTo}
 use Rattle.numbers.proofs.ListLaws.{listTo-ext}
 use Rattle.numbers.specs.Signed.{over}
-use Rattle.caas.specs.Group.{Group, Splits}
-use Rattle.caas.specs.Split.{result}
-use Rattle.caas.specs.Operation.{SplitCall, items, SplitFits, itemGroup, splitMasses}
-use Rattle.caas.proofs.ExtLaws.{all-ext, result-ext, splits-ext}
-use Rattle.caas.proofs.OperationLaws.{items-splits, highs-small, weights-small}
-use Rattle.columns.specs.Chain.{cursor, onChain}
-use Rattle.columns.specs.Columns.{width, MASS, LOW, HIGH, WEIGHT, FIRST, NEXT, col, num, Stored, Laid}
-use Rattle.columns.specs.Walks.{onChainOf, groupIn, Splitting, SplitDone}
-use Rattle.split.specs.Items.{Loaded}
-use Rattle.columns.proofs.ChainLaws.{cursor-start, cursor-next, chain-some}
+use Rattle.caas_spec.specs.Group.{Group, Splits}
+use Rattle.caas_spec.specs.Split.{result}
+use Rattle.caas_spec.specs.Operation.{SplitCall, items, SplitFits, itemGroup, splitMasses}
+use Rattle.caas_spec.proofs.ExtLaws.{all-ext, result-ext, splits-ext}
+use Rattle.caas_spec.proofs.OperationLaws.{items-splits, highs-small, weights-small}
+use Rattle.scratch_spec.specs.Chain.{cursor, onChain}
+use Rattle.scratch_spec.specs.Columns.{width, MASS, LOW, HIGH, WEIGHT, FIRST, NEXT, col, num, Stored, Laid}
+use Rattle.scratch_spec.specs.Walks.{onChainOf, groupIn, Splitting, SplitDone}
+use Rattle.split.specs.Items.{ItemsLoaded}
+use Rattle.scratch_spec.proofs.ChainLaws.{cursor-start, cursor-next, chain-some}
 
 -- a chain from 0 that leads from each number to the next has them all
 all-cursor : (next : ℕ → ℕ) (n : ℕ) → ((u : ℕ) → u < n → next u ≡ u + 1) → (u : ℕ) → u ≤ n → cursor next 0 u ≡ u
@@ -61,7 +61,7 @@ module _ (t l h w : List ℤ) (M : ℤ) (s₀ s₁ s₂ s₃ s₄ s₅ s₆ s : 
       go (yes e) = rw e (head .rows u (omega arith))
       go (no e) = head .cols j u b e
 
-  pub loaded : Loaded t l h w M s
+  pub loaded : ItemsLoaded t l h w M s
   loaded =
       record {
         size = omega (arith, long);
@@ -88,7 +88,7 @@ module _ (t l h w : List ℤ) (M : ℤ) (s₀ s₁ s₂ s₃ s₄ s₅ s₆ s : 
 
 -- ---- splitting
 
-module _ (c : SplitCall) (fits : SplitFits c) (s : List ℤ) (load : Loaded (c .targets) (c .lows) (c .highs) (c .weights) (c .total) s) where
+module _ (c : SplitCall) (fits : SplitFits c) (s : List ℤ) (load : ItemsLoaded (c .targets) (c .lows) (c .highs) (c .weights) (c .total) s) where
   abbrev pub G : Group
   G = itemGroup c
 

@@ -6,9 +6,9 @@ use lib.IntN.{ℤ}
 use lib.ListN.{length}
 use Rattle.numbers.specs.Lists.{atℤ}
 use Rattle.numbers.specs.Signed.{over}
-use Rattle.columns.specs.Columns.{width, MASS, LOW, HIGH, WEIGHT, FIRST, NEXT, col, num}
+use Rattle.scratch_spec.specs.Columns.{width, MASS, LOW, HIGH, WEIGHT, FIRST, NEXT, col, num}
 
-pub record Loaded (t l h w : List ℤ) (M : ℤ) (s : List ℤ) : Type 0 where
+pub record ItemsLoaded (t l h w : List ℤ) (M : ℤ) (s : List ℤ) : Type 0 where
   pub size : width * length t + width ≤ length s
   pub targets : (u : ℕ) → u < length t → col MASS s u ≡ atℤ t u
   pub lows : (u : ℕ) → u < length t → col LOW s u ≡ atℤ l u

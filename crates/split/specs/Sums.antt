@@ -8,7 +8,7 @@ use Rattle.numbers.specs.Sums.{ℕ-adds, sumTo}
 use Rattle.numbers.specs.Lists.{atℤ}
 use Rattle.numbers.specs.Signed.{over}
 use Rattle.numbers.specs.Checks.{maxTotal}
-use Rattle.caas.specs.Operation.{sumℤ}
+use Rattle.caas_spec.specs.Operation.{sumℤ}
 
 -- the sum of what a list's numbers have above 0
 abbrev pub sumOver : List ℤ → ℕ

@@ -1,13 +1,13 @@
-// The operation Split: ClipAndAssuredSum on one group of items. Public: `split`; the checks and the work below it are in modules of
-// their own, for this crate alone. Relies on `walks`, `columns`, `caas` and `numbers`.
+// The operation Split: ClipAndAssuredSum on one group of items. Public: `split`; the checks and the work below it are in modules of their
+// own, for this crate alone. Relies on `walks`, `scratch_spec`, `caas_spec` and `numbers`.
 ghost use mathlib.Core.Path.{_≡_};
 ghost use Rattle.numbers.specs.Checks.{answered};
-ghost use Rattle.caas.specs.Operation.{splitCall, splitTells, SplitContract};
-use caas::SplitAnswer;
+ghost use Rattle.caas_spec.specs.Operation.{splitCall, splitTells, SplitContract};
+use caas_spec::SplitAnswer;
 use numbers::Checked;
 
-mod checks;
-mod items;
+mod verdict;
+mod work;
 
 // The answer that tells a verdict.
 fn answer(verdict: Checked) -> SplitAnswer
@@ -28,12 +28,15 @@ pub fn split(
     total: i64,
     masses: &mut [i64],
 ) -> SplitAnswer
-    ensures { λ r. ⌜ SplitContract (splitCall (now (targets .entry)) (now (lows .entry)) (now (highs .entry)) (now (weights .entry)) total (now (masses .entry))) r (now (masses .exit)) ⌝ }
+    ensures { λ r.
+        ⌜ SplitContract
+        (splitCall (now (targets .entry)) (now (lows .entry)) (now (highs .entry)) (now (weights .entry)) total (now (masses .entry))) r
+        (now (masses .exit)) ⌝ }
 {
-    let verdict = checks::verdict(targets, lows, highs, weights, total, masses);
+    let verdict = verdict::verdict(targets, lows, highs, weights, total, masses);
     // a row for each of 512 items, and one for the total
     let mut scratch = [0i64; 3078];
-    items::split_by(
+    work::split_by(
         verdict,
         targets,
         lows,

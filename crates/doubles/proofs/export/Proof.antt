@@ -7,10 +7,10 @@ use lib.Ieee.{Float, binary64, mul, ofInt}
 use borrow.Author.Needs.{needs}
 use borrow.Author.Tests.{le-leb, lt-leb}
 use Rattle.numbers.specs.Checks.{answered, maxTotal, checkScale}
-use Rattle.conversion.specs.declared.Exported.the-variants.{Double, Refused}
-use Rattle.conversion.specs.Export.{checkMass, exportVerdict, exportDouble, exportTells}
-use Rattle.conversion.proofs.Powers.{product-is}
-use Rattle.conversion.proofs.ExportLaws.{export-meets}
+use Rattle.doubles_spec.specs.declared.Exported.the-variants.{Double, Refused}
+use Rattle.doubles_spec.specs.Export.{checkMass, exportVerdict, exportDouble, exportTells}
+use Rattle.doubles_spec.proofs.Powers.{product-is}
+use Rattle.doubles_spec.proofs.ExportLaws.{export-meets}
 use Rattle.doubles.proofs.export.Statement.{statement}
 use Rattle.doubles.proofs.export.Tie as tie
 

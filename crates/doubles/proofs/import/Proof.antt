@@ -6,13 +6,13 @@ use mir.Syntax.{w32}
 use mir.ValLaws.{toZ-ofZ}
 use borrow.Author.Needs.{needs}
 use borrow.Author.Tests.{le-leb, lt-leb}
-use Rattle.conversion.specs.Import.{ImportContract}
-use Rattle.conversion.specs.Forms.{targetField, lowField, highField, importFields, importForm}
-use Rattle.conversion.specs.declared.CellDoubles.{CellDoubles}
-use Rattle.conversion.specs.declared.Imported.{Imported}
-use Rattle.conversion.specs.declared.TargetField.{TargetField}
-use Rattle.conversion.specs.declared.BoundField.{BoundField}
-use Rattle.conversion.proofs.ImportLaws.{import-meets}
+use Rattle.doubles_spec.specs.Import.{ImportContract}
+use Rattle.doubles_spec.specs.Forms.{targetField, lowField, highField, importFields, importForm}
+use Rattle.doubles_spec.specs.declared.CellDoubles.{CellDoubles}
+use Rattle.doubles_spec.specs.declared.Imported.{Imported}
+use Rattle.doubles_spec.specs.declared.TargetField.{TargetField}
+use Rattle.doubles_spec.specs.declared.BoundField.{BoundField}
+use Rattle.doubles_spec.proofs.ImportLaws.{import-meets}
 use Rattle.doubles.proofs.import.Statement.{statement}
 use Rattle.doubles.proofs.import.Tie as tie
 

@@ -5,9 +5,9 @@ use Prim.Native.Nat.{ℕ}
 use Rattle.numbers.specs.declared.Checked.the-variants.{Pass}
 use Rattle.numbers.specs.Checks.{first}
 use Rattle.numbers.proofs.CheckLaws.{both-first}
-use Rattle.qlt.specs.Field.{Lists, lists}
-use Rattle.formats.specs.ReadField.{laterVerdict, readVerdict, HeadFits}
-use Rattle.formats.proofs.ReadLaws.{head-accepts, head-measured, head-room}
+use Rattle.qlt_spec.specs.Field.{Lists, lists}
+use Rattle.files_spec.specs.ReadField.{laterVerdict, readVerdict, HeadFits}
+use Rattle.files_spec.proofs.ReadLaws.{head-accepts, head-measured, head-room}
 use Rattle.field_file.proofs.Laws.{by-verdict}
 use borrow.Author.Needs.{needs}
 use Rattle.field_file.proofs.read_field.Statement.{statement}

@@ -4,8 +4,8 @@ use lib.IntN.{ℤ}
 use mir.Syntax.{w32}
 use mir.Val.{toZ, ofZ}
 use mir.ValLaws.{toZ-ofZ}
-use Rattle.qlt.specs.Field.{lists}
-use Rattle.account.specs.Step.{StepCall, stepCall, StepContract}
+use Rattle.qlt_spec.specs.Field.{lists}
+use Rattle.kept_spec.specs.Step.{StepCall, stepCall, StepContract}
 use borrow.Author.Needs.{needs}
 use Rattle.kept.proofs.step.Statement.{statement}
 use Rattle.kept.proofs.step.Tie as tie

@@ -1,6 +1,6 @@
 -- `legzhuro_c::legzhuro_import` meets its contract: the room first, and then what Import tells is returned and written.
 use native.Mathlib.Omega.{arith}
-use Rattle.conversion.specs.declared.CellDoubles.{CellDoubles}
+use Rattle.doubles_spec.specs.declared.CellDoubles.{CellDoubles}
 use Rattle.legzhuro_c.proofs.CallLaws.{import-no-room, import-done, import-bad-scale, import-refused}
 use borrow.Author.Needs.{needs}
 use Rattle.legzhuro_c.proofs.legzhuro_import.Statement.{statement}

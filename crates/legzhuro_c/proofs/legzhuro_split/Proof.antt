@@ -3,7 +3,7 @@ use mathlib.Core.Path.{subst}
 use lib.IntN.{ℤ}
 use mir.Syntax.{w64}
 use mir.ValLaws.{toZ-ofZ}
-use Rattle.caas.specs.Operation.{SplitCall, splitCall, SplitContract}
+use Rattle.caas_spec.specs.Operation.{SplitCall, splitCall, SplitContract}
 use Rattle.legzhuro_c.proofs.CallLaws.{split-done, split-refused}
 use borrow.Author.Needs.{needs}
 use Rattle.legzhuro_c.proofs.legzhuro_split.Statement.{statement}

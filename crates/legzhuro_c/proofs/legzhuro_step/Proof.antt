@@ -4,8 +4,8 @@ use lib.IntN.{ℤ}
 use mir.Syntax.{w32}
 use mir.ValLaws.{toZ-ofZ}
 use Rattle.numbers.specs.declared.Checked.the-variants.{Pass}
-use Rattle.qlt.specs.Field.{lists}
-use Rattle.account.specs.Step.{StepCall, stepCall, StepContract}
+use Rattle.qlt_spec.specs.Field.{lists}
+use Rattle.kept_spec.specs.Step.{StepCall, stepCall, StepContract}
 use Rattle.legzhuro_c.proofs.CallLaws.{stepShape, step-shape-refused, step-room, step-done, step-refused}
 use borrow.Author.Needs.{needs}
 use Rattle.legzhuro_c.proofs.legzhuro_step.Statement.{statement}

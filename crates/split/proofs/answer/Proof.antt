@@ -1,7 +1,7 @@
 -- `split::answer` meets its contract, case by case.
 use mathlib.Core.Path.{sym, ap}
 use Rattle.numbers.specs.Checks.{answered}
-use Rattle.caas.specs.Operation.{splitTells}
+use Rattle.caas_spec.specs.Operation.{splitTells}
 use borrow.Author.Needs.{needs}
 use Rattle.split.proofs.answer.Statement.{statement}
 use Rattle.split.proofs.answer.Tie as tie

@@ -6,7 +6,7 @@ use mir.Syntax.{w64}
 use mir.Val.{toZ, ofZ}
 use mir.ValLaws.{toZ-ofZ}
 use Rattle.numbers.specs.Checks.{answered, after}
-use Rattle.caas.specs.Operation.{SplitCall, splitCall, splitVerdict, splitMasses}
+use Rattle.caas_spec.specs.Operation.{SplitCall, splitCall, splitVerdict, splitMasses}
 use borrow.Author.Needs.{needs}
 use Rattle.split.proofs.split.Statement.{statement}
 use Rattle.split.proofs.split.Tie as tie

@@ -3,9 +3,9 @@ use mathlib.Core.Path.{_≡_, sym, ap, _∙_}
 use mathlib.Core.Bool.{Bool, true, false}
 use borrow.Author.Needs.{needs}
 use borrow.Author.Tests.{eq-eqb, ne-eqb}
-use Rattle.conversion.specs.Forms.{highField}
-use Rattle.conversion.specs.declared.Product.the-variants.{Finite}
-use Rattle.conversion.proofs.FieldLaws.{highFrom, high-product}
+use Rattle.doubles_spec.specs.Forms.{highField}
+use Rattle.doubles_spec.specs.declared.Product.the-variants.{Finite}
+use Rattle.doubles_spec.proofs.FieldLaws.{highFrom, high-product}
 use Rattle.doubles.proofs.fields.high_field.Statement.{statement}
 use Rattle.doubles.proofs.fields.high_field.Tie as tie
 

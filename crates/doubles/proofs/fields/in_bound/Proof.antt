@@ -1,7 +1,7 @@
 -- `doubles::fields::in_bound` meets its contract: its test is that of `inBound`.
 use mathlib.Core.Path.{sym}
 use borrow.Author.Needs.{needs}
-use Rattle.conversion.proofs.FieldLaws.{in-range, out-of-range}
+use Rattle.doubles_spec.proofs.FieldLaws.{in-range, out-of-range}
 use Rattle.doubles.proofs.fields.in_bound.Statement.{statement}
 use Rattle.doubles.proofs.fields.in_bound.Tie as tie
 

@@ -6,10 +6,10 @@ use native.Mathlib.Omega.{arith}
 use mir.Syntax.{w32}
 use mir.ValLaws.{toZ-pos}
 use borrow.Author.Needs.{needs}
-use Rattle.conversion.specs.Forms.{inTarget}
+use Rattle.doubles_spec.specs.Forms.{inTarget}
 use Rattle.numbers.specs.Roundings.{signed}
-use Rattle.conversion.specs.declared.TargetField.{TargetField}
-use Rattle.conversion.proofs.FieldLaws.{in-range, out-of-range, minus-fits, minus-back, minus-signed}
+use Rattle.doubles_spec.specs.declared.TargetField.{TargetField}
+use Rattle.doubles_spec.proofs.FieldLaws.{in-range, out-of-range, minus-fits, minus-back, minus-signed}
 use Rattle.doubles.proofs.fields.in_target.Statement.{statement}
 use Rattle.doubles.proofs.fields.in_target.Tie as tie
 

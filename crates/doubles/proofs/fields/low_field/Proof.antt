@@ -4,10 +4,10 @@ use mathlib.Core.Bool.{Bool, true, false, cond}
 use native.Mathlib.Nat.{add-zero}
 use borrow.Author.Needs.{needs}
 use borrow.Author.Tests.{eq-eqb, ne-eqb, le-leb, lt-leb}
-use Rattle.conversion.specs.Forms.{lowField}
-use Rattle.conversion.specs.declared.Product.the-variants.{Finite}
-use Rattle.conversion.specs.declared.BoundField.{BoundField}
-use Rattle.conversion.proofs.FieldLaws.{lowFrom, low-product}
+use Rattle.doubles_spec.specs.Forms.{lowField}
+use Rattle.doubles_spec.specs.declared.Product.the-variants.{Finite}
+use Rattle.doubles_spec.specs.declared.BoundField.{BoundField}
+use Rattle.doubles_spec.proofs.FieldLaws.{lowFrom, low-product}
 use Rattle.doubles.proofs.fields.low_field.Statement.{statement}
 use Rattle.doubles.proofs.fields.low_field.Tie as tie
 

@@ -5,7 +5,7 @@ use native.Mathlib.Nat.{mod-le}
 use native.Mathlib.Omega.{arith}
 use lib.Pow.{pow-pos}
 use borrow.Author.Needs.{needs}
-use Rattle.conversion.proofs.Fractions.{large, shifted, tiny, read-at, unit-is, left-none, left-some}
+use Rattle.doubles_spec.proofs.Fractions.{large, shifted, tiny, read-at, unit-is, left-none, left-some}
 use Rattle.doubles.proofs.fields.normal.Statement.{statement}
 use Rattle.doubles.proofs.fields.normal.Tie as tie
 

@@ -5,8 +5,8 @@ use native.Mathlib.Omega.{arith}
 use lib.Dec.{T, leb}
 use lib.Ieee.{Float, binary64, toBits, ofFields, fits}
 use borrow.Author.Needs.{needs}
-use Rattle.conversion.specs.Forms.{product}
-use Rattle.conversion.proofs.Patterns.{zero-fields, subnormal-fields, normal-fields, top-fields, by-fields, no-nan, is-nan}
+use Rattle.doubles_spec.specs.Forms.{product}
+use Rattle.doubles_spec.proofs.Patterns.{zero-fields, subnormal-fields, normal-fields, top-fields, by-fields, no-nan, is-nan}
 use Rattle.doubles.proofs.fields.scaled.Statement.{statement}
 use Rattle.doubles.proofs.fields.scaled.Tie as tie
 

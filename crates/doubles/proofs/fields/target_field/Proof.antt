@@ -3,9 +3,9 @@ use mathlib.Core.Path.{_≡_, sym, ap, _∙_}
 use native.Mathlib.Nat.{add-zero}
 use borrow.Author.Needs.{needs}
 use borrow.Author.Tests.{eq-eqb, ne-eqb, le-leb, lt-leb}
-use Rattle.conversion.specs.Forms.{targetField}
-use Rattle.conversion.specs.declared.Product.the-variants.{Finite}
-use Rattle.conversion.proofs.FieldLaws.{targetFrom, target-product}
+use Rattle.doubles_spec.specs.Forms.{targetField}
+use Rattle.doubles_spec.specs.declared.Product.the-variants.{Finite}
+use Rattle.doubles_spec.proofs.FieldLaws.{targetFrom, target-product}
 use Rattle.doubles.proofs.fields.target_field.Statement.{statement}
 use Rattle.doubles.proofs.fields.target_field.Tie as tie
 

@@ -1,6 +1,6 @@
 -- `doubles::power::power` meets its contract: the bits are the exponent's field 1023 - k and no digits, which stand for 2 ^ -k.
 use borrow.Author.Needs.{needs}
-use Rattle.conversion.proofs.Powers.{power-no-nan, power-value}
+use Rattle.doubles_spec.proofs.Powers.{power-no-nan, power-value}
 use Rattle.doubles.proofs.power.power.Statement.{statement}
 use Rattle.doubles.proofs.power.power.Tie as tie
 

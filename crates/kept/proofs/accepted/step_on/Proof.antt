@@ -5,9 +5,9 @@ use lib.IntN.{ℤ, pos, _+ℤ_}
 use mir.Syntax.{w32, w64}
 use mir.Val.{toZ, ofZ}
 use mir.ValLaws.{toZ-ofZ}
-use Rattle.qlt.specs.Field.{lists}
+use Rattle.qlt_spec.specs.Field.{lists}
 use Rattle.numbers.specs.Signed.{over}
-use Rattle.account.specs.Step.{StepCall, stepCall, newTotal}
+use Rattle.kept_spec.specs.Step.{StepCall, stepCall, newTotal}
 use Rattle.kept.proofs.TotalLaws.{next-read, fits-total, fits-call, repaired-step}
 use borrow.Author.Needs.{needs}
 use Rattle.kept.proofs.accepted.step_on.Statement.{statement}

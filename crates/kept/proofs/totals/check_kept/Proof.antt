@@ -2,7 +2,7 @@
 use mathlib.Core.Path.{_∙_, ap}
 use lib.Dec.{eqb}
 use Rattle.numbers.specs.Checks.{unless}
-use Rattle.account.specs.Step.{checkKept}
+use Rattle.kept_spec.specs.Step.{checkKept}
 use borrow.Author.Needs.{needs}
 use Rattle.kept.proofs.totals.check_kept.Statement.{statement}
 use Rattle.kept.proofs.totals.check_kept.Tie as tie

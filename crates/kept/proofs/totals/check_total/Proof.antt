@@ -1,12 +1,12 @@
 -- `kept::totals::check_total` meets its contract: its test is the definition's.
-use mathlib.Core.Path.{_≡_, _∙_, ap, ap₂}
+use mathlib.Core.Path.{_∙_, ap, ap₂}
 use mathlib.Core.Bool.{_&&_}
 use lib.IntN.{ℤ, pos}
 use lib.Signed.{leZ}
 use mir.Syntax.{w64}
 use mir.ValLaws.{toZ-ofZ}
 use Rattle.numbers.specs.Checks.{unless, maxTotal}
-use Rattle.account.specs.Open.{checkTotal}
+use Rattle.kept_spec.specs.Open.{checkTotal}
 use borrow.Author.Needs.{needs}
 use Rattle.kept.proofs.totals.check_total.Statement.{statement}
 use Rattle.kept.proofs.totals.check_total.Tie as tie

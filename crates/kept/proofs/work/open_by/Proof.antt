@@ -3,8 +3,8 @@ use mathlib.Core.Path.{sym, _∙_, ap}
 use native.Mathlib.Omega.{arith}
 use Rattle.numbers.specs.Checks.{accepted, answered}
 use Rattle.numbers.specs.Lists.{sum}
-use Rattle.account.specs.Open.{openTells, OpenFits}
-use Rattle.account.proofs.OpenLaws.{open-accepts}
+use Rattle.kept_spec.specs.Open.{openTells, OpenFits}
+use Rattle.kept_spec.proofs.OpenLaws.{open-accepts}
 use borrow.Author.Needs.{needs}
 use Rattle.kept.proofs.work.open_by.Statement.{statement}
 use Rattle.kept.proofs.work.open_by.Tie as tie

@@ -6,11 +6,11 @@ use mir.Val.{toZ, ofZ}
 use mir.ValLaws.{toZ-ofZ}
 use Rattle.numbers.specs.declared.Checked.the-variants.{Pass}
 use Rattle.numbers.specs.Checks.{accepted}
-use Rattle.qlt.specs.Field.{lists}
-use Rattle.qlt.specs.Operation.{RepairContract}
-use Rattle.account.specs.Step.{StepCall, stepCall, repairCall, StepFits, stepTells}
-use Rattle.account.proofs.StepLaws.{step-accepts}
-use Rattle.qlt.proofs.OperationLaws.{contract-done, contract-refused}
+use Rattle.qlt_spec.specs.Field.{lists}
+use Rattle.qlt_spec.specs.Operation.{RepairContract}
+use Rattle.kept_spec.specs.Step.{StepCall, stepCall, repairCall, StepFits, stepTells}
+use Rattle.kept_spec.proofs.StepLaws.{step-accepts}
+use Rattle.qlt_spec.proofs.OperationLaws.{contract-done, contract-refused}
 use borrow.Author.Needs.{needs}
 use Rattle.kept.proofs.work.step_by.Statement.{statement}
 use Rattle.kept.proofs.work.step_by.Tie as tie

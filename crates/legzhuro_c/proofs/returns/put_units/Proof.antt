@@ -12,7 +12,7 @@ use mir.Facts.{sfits-widen}
 use Rattle.numbers.specs.Lists.{written}
 use Rattle.numbers.proofs.SignedLaws.{widened}
 use Rattle.numbers.proofs.PartLaws.{sets-written}
-use Rattle.conversion.specs.declared.CellUnits.{CellUnits}
+use Rattle.doubles_spec.specs.declared.CellUnits.{CellUnits}
 use Rattle.legzhuro_c.specs.Calls.{unitsList}
 use borrow.Author.Needs.{needs}
 use Rattle.legzhuro_c.proofs.returns.put_units.Statement.{statement}

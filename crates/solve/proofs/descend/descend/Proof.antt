@@ -1,16 +1,16 @@
--- `solve::descend::descend` meets its contract: linking leaves what the masses go by (`planned-same`), and `Down` holds from turn to turn
+-- `solve::descend::descend` meets its contract: linking leaves what the masses go by (`planned-same`), and `DescendState` holds from turn to turn
 -- (`down-start`, `down-turn`); at n all inner nodes are split (`descended`).
 use mathlib.Core.Path.{_∙_}
 use native.Mathlib.Omega.{arith}
 use borrow.Author.Needs.{needs}
 use Rattle.numbers.specs.Lists.{at}
-use Rattle.passes.specs.Descent.{Planned, Down}
-use Rattle.passes.proofs.DescentLaws.{valid-one, planned-same, down-start, down-splitting, down-turn, descended}
+use Rattle.solve_spec.specs.Descent.{Planned, DescendState}
+use Rattle.solve_spec.proofs.DescentLaws.{valid-one, planned-same, down-start, down-splitting, down-turn, descended}
 use Rattle.solve.proofs.descend.descend.Statement.{statement}
 use Rattle.solve.proofs.descend.descend.Tie as tie
 
 abbrev Inv-loop : tie.InvT-loop
-Inv-loop parents n m s₀ v₀ s v = Down (at parents) n m s₀ v s
+Inv-loop parents n m s₀ v₀ s v = DescendState (at parents) n m s₀ v s
 
 abbrev μ-loop : tie.MeasureT-loop
 μ-loop parents n m s₀ v₀ s v = v

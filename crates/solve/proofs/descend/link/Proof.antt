@@ -7,9 +7,9 @@ use borrow.Author.Needs.{needs}
 use lib.IntN.{ℤ}
 use lib.ListN.{length}
 use Rattle.numbers.specs.Lists.{at}
-use Rattle.columns.specs.Columns.{FIRST, InRow}
-use Rattle.passes.specs.Descent.{LinkState}
-use Rattle.passes.proofs.LinkLaws.{link-start, node-row, parent-row, link-turn, link-end}
+use Rattle.scratch_spec.specs.Columns.{FIRST, InRow}
+use Rattle.solve_spec.specs.Descent.{LinkState}
+use Rattle.solve_spec.proofs.LinkLaws.{link-start, node-row, parent-row, link-turn, link-end}
 use Rattle.solve.proofs.descend.link.Statement.{statement}
 use Rattle.solve.proofs.descend.link.Tie as tie
 
@@ -50,13 +50,13 @@ shared-slice-read-wide c = omega (arith, c .before .before .loop .inv .within)
 wide-requires : tie.Need-wide-requires Inv-loop μ-loop
 wide-requires c κs = search needs
 
-get-requires : tie.Need-get-requires Inv-loop μ-loop
-get-requires c κs = row (c .before) refl
+get-above-requires : tie.Need-get-above-requires Inv-loop μ-loop
+get-above-requires c κs = row (c .before) refl
 
 put-requires : tie.Need-put-requires Inv-loop μ-loop
 put-requires c κs =
     let t = turn (c .before .before .before) in
-    (node-row (start t .pre .0) (start t .pre .1 .1 .0) (t .before .loop .inv) (t .loop-test .taken), c .before .get .ensures .1)
+    (node-row (start t .pre .0) (start t .pre .1 .1 .0) (t .before .loop .inv) (t .loop-test .taken), c .before .get-above .ensures .1)
 
 stored-index-requires : tie.Need-stored-index-requires Inv-loop μ-loop
 stored-index-requires c κs = search needs
@@ -75,7 +75,7 @@ loop-again c =
     let t = turn w in
     link-turn (start t .pre .0) (start t .pre .1 .1 .0) (t .before .loop .inv) (t .loop-test .taken)
     (w .wide .ensures)
-    (c .before .before .before .before .before .before .before .get .ensures .0)
+    (c .before .before .before .before .before .before .before .get-above .ensures .0)
     (c .before .before .stored-index .ensures)
     (c .before .before .before .before .before .put .ensures)
     (c .before .put2 .ensures)
@@ -98,7 +98,7 @@ link-spec =
     mul-wide
     shared-slice-read-wide
     wide-requires
-    get-requires
+    get-above-requires
     put-requires
     stored-index-requires
     put-requires-2

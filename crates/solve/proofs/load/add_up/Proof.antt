@@ -5,8 +5,8 @@ use mir.Syntax.{w64}
 use mir.Val.{SFits, toZ, ofZ}
 use mir.ValLaws.{toZ-ofZ}
 use borrow.Author.Needs.{needs, sfits-of}
-use Rattle.columns.specs.Columns.{Stored}
-use Rattle.passes.proofs.GatherLaws.{sum-read}
+use Rattle.scratch_spec.specs.Columns.{Stored}
+use Rattle.solve_spec.proofs.GatherLaws.{sum-read}
 use Rattle.solve.proofs.load.add_up.Statement.{statement}
 use Rattle.solve.proofs.load.add_up.Tie as tie
 

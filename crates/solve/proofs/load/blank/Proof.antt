@@ -5,8 +5,8 @@ use native.Mathlib.Omega.{arith}
 use lib.Dec.{leb}
 use lib.IntN.{pos}
 use borrow.Author.Tests.{lt-leb, le-leb}
-use Rattle.columns.specs.Columns.{Laid}
-use Rattle.columns.proofs.ColumnLaws.{in-row, laid-start, laid-to, laid-next}
+use Rattle.scratch_spec.specs.Columns.{Laid}
+use Rattle.scratch_spec.proofs.ColumnLaws.{in-row, laid-start, laid-to, laid-next}
 use borrow.Author.Needs.{needs}
 use Rattle.solve.proofs.load.blank.Statement.{statement}
 use Rattle.solve.proofs.load.blank.Tie as tie

@@ -8,7 +8,7 @@ use mir.Syntax.{w32}
 use mir.ValLaws.{toZ-ofZ}
 use Rattle.numbers.specs.Sums.{ℕ-adds, sumTo}
 use Rattle.numbers.specs.Lists.{at, atℤ}
-use Rattle.passes.proofs.GatherLaws.{sum-on}
+use Rattle.solve_spec.proofs.GatherLaws.{sum-on}
 use borrow.Author.Needs.{needs}
 use Rattle.solve.proofs.load.change.Statement.{statement}
 use Rattle.solve.proofs.load.change.Tie as tie

@@ -5,8 +5,8 @@ use Prim.Native.Nat.{_-_, _≤_}
 use native.Mathlib.Omega.{arith}
 use lib.IntN.{ℤ, pos}
 use lib.ListN.{length, set, length-set}
-use Rattle.qlt.specs.Operation.{cleared}
-use Rattle.passes.proofs.GatherLaws.{cleared-none, cleared-next}
+use Rattle.qlt_spec.specs.Operation.{cleared}
+use Rattle.solve_spec.proofs.GatherLaws.{cleared-none, cleared-next}
 use borrow.Author.Needs.{needs}
 use Rattle.solve.proofs.load.clear.Statement.{statement}
 use Rattle.solve.proofs.load.clear.Tie as tie

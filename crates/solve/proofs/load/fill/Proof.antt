@@ -6,8 +6,8 @@ use native.Mathlib.Omega.{arith}
 use lib.IntN.{pos}
 use lib.ListN.{length}
 use Rattle.numbers.specs.Lists.{at}
-use Rattle.columns.specs.Columns.{Laid}
-use Rattle.columns.proofs.ColumnLaws.{in-row, laid-start, laid-next}
+use Rattle.scratch_spec.specs.Columns.{Laid}
+use Rattle.scratch_spec.proofs.ColumnLaws.{in-row, laid-start, laid-next}
 use borrow.Author.Needs.{needs}
 use Rattle.solve.proofs.load.fill.Statement.{statement}
 use Rattle.solve.proofs.load.fill.Tie as tie

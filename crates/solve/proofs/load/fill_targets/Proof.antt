@@ -8,9 +8,9 @@ use mir.Syntax.{w64}
 use mir.Val.{toZ, ofZ}
 use mir.ValLaws.{toZ-ofZ}
 use borrow.Author.Needs.{needs, sfits-of}
-use Rattle.columns.proofs.ColumnLaws.{in-row}
-use Rattle.passes.specs.Gather.{Targets}
-use Rattle.passes.proofs.GatherLaws.{targets-start, targets-next}
+use Rattle.scratch_spec.proofs.ColumnLaws.{in-row}
+use Rattle.solve_spec.specs.Gather.{Targets}
+use Rattle.solve_spec.proofs.GatherLaws.{targets-start, targets-next}
 use Rattle.solve.proofs.load.fill_targets.Statement.{statement}
 use Rattle.solve.proofs.load.fill_targets.Tie as tie
 

@@ -4,8 +4,8 @@ use mathlib.Core.Bool.{true}
 use Prim.Native.Nat.{_-_, _≤_}
 use native.Mathlib.Omega.{arith}
 use lib.IntN.{pos}
-use Rattle.columns.specs.Columns.{Laid}
-use Rattle.columns.proofs.ColumnLaws.{in-row, laid-start, laid-next}
+use Rattle.scratch_spec.specs.Columns.{Laid}
+use Rattle.scratch_spec.proofs.ColumnLaws.{in-row, laid-start, laid-next}
 use borrow.Author.Needs.{needs}
 use Rattle.solve.proofs.load.fill_with.Statement.{statement}
 use Rattle.solve.proofs.load.fill_with.Tie as tie

@@ -4,8 +4,8 @@ use mathlib.Core.Path.{_∙_}
 use Prim.Native.Nat.{_-_, _≤_, _<_}
 use native.Mathlib.Omega.{arith}
 use Rattle.numbers.specs.Lists.{at}
-use Rattle.columns.specs.Columns.{col}
-use Rattle.passes.proofs.GatherLaws.{GatherState, gather-start, gather-adds, gather-turn, gather-end}
+use Rattle.scratch_spec.specs.Columns.{col}
+use Rattle.solve_spec.proofs.GatherLaws.{GatherState, gather-start, gather-adds, gather-turn, gather-end}
 use borrow.Author.Needs.{needs}
 use Rattle.solve.proofs.load.gather.Statement.{statement}
 use Rattle.solve.proofs.load.gather.Tie as tie

@@ -1,6 +1,6 @@
 -- `solve::load::load` meets its contract: the cells have their values, whose sum is small, so they can be added up.
 use native.Mathlib.Omega.{arith}
-use Rattle.passes.proofs.GatherLaws.{load-gathering, load-end}
+use Rattle.solve_spec.proofs.GatherLaws.{load-gathering, load-end}
 use borrow.Author.Needs.{needs}
 use Rattle.solve.proofs.load.load.Statement.{statement}
 use Rattle.solve.proofs.load.load.Tie as tie

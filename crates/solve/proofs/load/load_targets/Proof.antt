@@ -1,6 +1,6 @@
 -- `solve::load::load_targets` meets its contract: as `load`; 512 targets of 32 bits each do not add up to too much.
 use native.Mathlib.Omega.{arith}
-use Rattle.passes.proofs.GatherLaws.{load-gathering, load-end, targets-small}
+use Rattle.solve_spec.proofs.GatherLaws.{load-gathering, load-end, targets-small}
 use borrow.Author.Needs.{needs}
 use Rattle.solve.proofs.load.load_targets.Statement.{statement}
 use Rattle.solve.proofs.load.load_targets.Tie as tie

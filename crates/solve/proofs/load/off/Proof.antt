@@ -5,7 +5,7 @@ use lib.IntN.{pos, natAbs, _-ℤ_}
 use mir.Syntax.{w32, w64}
 use mir.Val.{toZ, ofZ}
 use mir.ValLaws.{toZ-ofZ}
-use Rattle.passes.proofs.GatherLaws.{off-size}
+use Rattle.solve_spec.proofs.GatherLaws.{off-size}
 use borrow.Author.Needs.{needs}
 use Rattle.solve.proofs.load.off.Statement.{statement}
 use Rattle.solve.proofs.load.off.Tie as tie

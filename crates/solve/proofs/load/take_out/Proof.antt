@@ -7,8 +7,8 @@ use native.Mathlib.Omega.{arith}
 use lib.ListN.{length, set, length-set}
 use Rattle.numbers.specs.Lists.{listTo, written}
 use Rattle.numbers.proofs.ListLaws.{written-none, written-next, written-all}
-use Rattle.columns.specs.Columns.{MASS, num}
-use Rattle.columns.proofs.ColumnLaws.{in-row}
+use Rattle.scratch_spec.specs.Columns.{MASS, num}
+use Rattle.scratch_spec.proofs.ColumnLaws.{in-row}
 use borrow.Author.Needs.{needs}
 use Rattle.solve.proofs.load.take_out.Statement.{statement}
 use Rattle.solve.proofs.load.take_out.Tie as tie
@@ -22,11 +22,11 @@ abbrev μ-loop : tie.MeasureT-loop
 loop-holds : tie.Need-loop-holds Inv-loop μ-loop
 loop-holds c = (omega arith, refl, written-none _ 0 _)
 
-get-requires : tie.Need-get-requires Inv-loop μ-loop
-get-requires c κs = in-row _ (length (c .before .before .before .args .masses .now)) _ _ (omega arith) (omega arith) (c .before .before .before .pre .0)
+get-above-requires : tie.Need-get-above-requires Inv-loop μ-loop
+get-above-requires c κs = in-row _ (length (c .before .before .before .args .masses .now)) _ _ (omega arith) (omega arith) (c .before .before .before .pre .0)
 
 narrow-requires : tie.Need-narrow-requires Inv-loop μ-loop
-narrow-requires c κs = omega (arith, c .get .ensures .0, c .before .before .before .before .pre .1 (c .before .before .loop .u) (omega arith))
+narrow-requires c κs = omega (arith, c .get-above .ensures .0, c .before .before .before .before .pre .1 (c .before .before .loop .u) (omega arith))
 
 mul-masses : tie.Need-mul-masses Inv-loop μ-loop
 mul-masses c = search needs
@@ -47,7 +47,7 @@ loop-again c =
     let f : ℕ → ℕ = λ i. num MASS (c .before .before .before .before .before .args .s .now) i in (
       omega arith,
       length-set (w .masses) (w .u) (c .narrow .result) ∙ w .inv .1,
-      ap₂ (λ (l : List ℕ) (x : ℕ). set l (w .u) x) (w .inv .2) (c .narrow .ensures ∙ c .before .get .ensures .0)
+      ap₂ (λ (l : List ℕ) (x : ℕ). set l (w .u) x) (w .inv .2) (c .narrow .ensures ∙ c .before .get-above .ensures .0)
           ∙ ap (λ i. set (written old 0 (listTo (w .u) f)) i (f (w .u))) (sym (zero-add (w .u)))
           ∙ written-next old 0 f (w .u) (omega arith),
     )
@@ -70,7 +70,7 @@ take-out-spec =
     Inv-loop
     μ-loop
     loop-holds
-    get-requires
+    get-above-requires
     narrow-requires
     mul-masses
     slice-write-masses

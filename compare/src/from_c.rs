@@ -1,0 +1,58 @@
+//! The operations as `legzhuro.h` tells of its calls: what an operation gives goes to a lent list, a list too short for it counts under 3,
+//! and number and place come back in one value. Shares no code with the library.
+
+use crate::operations::{check_counts, refuse, Refusal};
+use crate::tree::{Lists, Workspace};
+use crate::{doubles, operations};
+
+/// The value returned: the number in the low 32 bits, the place in the high 32.
+pub fn returned(result: Result<(), Refusal>) -> u64 {
+    match result {
+        Ok(()) => 0,
+        Err(refusal) => u64::from(refusal.number) | u64::from(refusal.place) << 32,
+    }
+}
+
+/// The 3 of a list that needs `least` entries.
+fn check_length<T>(list: &[T], least: usize) -> Result<(), Refusal> {
+    if list.len() < least {
+        return refuse(3);
+    }
+    Ok(())
+}
+
+pub fn open(kept: &[u32], answer: &mut [u64]) -> Result<(), Refusal> {
+    check_length(answer, 1)?;
+    answer[0] = u64::from(operations::open(kept)?);
+    Ok(())
+}
+
+/// The answer's length is checked with the other lengths, after 1 and 2.
+pub fn step(
+    workspace: &mut Workspace,
+    total: u32,
+    kept: &mut [u32],
+    source: i32,
+    lists: &Lists,
+    scratch: &mut [i64],
+    answer: &mut [u64],
+) -> Result<(), Refusal> {
+    check_counts(lists)?;
+    check_length(answer, 3)?;
+    let repair = operations::step(workspace, total, kept, source, lists, scratch)?;
+    answer[..3].copy_from_slice(&[u64::from(repair.outcome), u64::from(repair.total), repair.change]);
+    Ok(())
+}
+
+pub fn import(doubles: [f64; 5], scale: u32, units: &mut [i64]) -> Result<(), Refusal> {
+    check_length(units, 5)?;
+    let imported = doubles::import(doubles, scale).map_err(|refused| refused.refusal)?;
+    units[..5].copy_from_slice(&imported);
+    Ok(())
+}
+
+pub fn export(mass: u32, scale: u32, value: &mut [f64]) -> Result<(), Refusal> {
+    check_length(value, 1)?;
+    value[0] = doubles::export(mass, scale)?;
+    Ok(())
+}

@@ -1,0 +1,120 @@
+-- 01's starred examples, E1 to E10: what is asked, and what must be given. Assumes nothing.
+use mathlib.Core.List.{List, [], _∷_}
+use Prim.Native.Nat.{ℕ}
+use lib.IntN.{ℤ, pos, negsuc}
+use lib.ListN.{replicate}
+use lib.Ieee.{Float, binary64, ofBits}
+use Rattle.numbers.specs.Checks.{Answered, accepted, refused, answered, after}
+use Rattle.caas_spec.specs.Operation.{SplitCall, splitCall, splitVerdict, splitMasses}
+use Rattle.qlt_spec.specs.declared.Repair.{Repair}
+use Rattle.qlt_spec.specs.Field.{Lists, lists, field}
+use Rattle.qlt_spec.specs.Masses.{treeMasses}
+use Rattle.qlt_spec.specs.Operation as reconstruct
+use Rattle.qlt_spec.specs.Operation.{ReconstructCall, reconstructCall}
+use Rattle.doubles_spec.specs.declared.CellDoubles.{CellDoubles}
+use Rattle.doubles_spec.specs.declared.CellUnits.{CellUnits}
+use Rattle.doubles_spec.specs.Import.{importVerdict, importUnits, carried}
+use Rattle.files_spec.specs.FieldFile.{fieldBytes}
+use Rattle.report.specs.Report.{reportText}
+use Rattle.text.specs.Ascii.{ascii}
+
+-- ---- what is asked: a call of Split, of Reconstruct, of Import at scale 0, or the text for a field file's bytes
+pub data Asked : Type 0 where
+  splits : SplitCall → Asked
+  repairs : ReconstructCall → Asked
+  imports : CellDoubles → Asked
+  prints : List ℕ → Asked
+
+-- what is given: what the operation tells, with the masses that it leaves or the double that a refusal carries; or the text
+pub data Given : Type 0 where
+  split : Answered Unit → List ℤ → Given
+  repair : Answered Repair → List ℕ → Given
+  import : Answered CellUnits → List Float → Given
+  text : List ℕ → Given
+
+-- by the definitions that the contracts cite
+abbrev pub gives : Asked → Given
+gives (splits c) = split (answered (splitVerdict c) tt) (after (splitVerdict c) (splitMasses c) (c .masses))
+gives (repairs c) =
+    repair (answered (reconstruct.reconstructVerdict c) (reconstruct.repair (c .lists) (c .total)))
+    (after (reconstruct.reconstructVerdict c) (treeMasses (field (c .lists)) (c .total)) (c .masses))
+gives (imports d) = import (answered (importVerdict d 0) (importUnits d 0)) (carried (importVerdict d 0) d)
+gives (prints file) = text (reportText file)
+
+-- ---- the calls; before each, every mass is 9 and every scratch number 1
+
+abbrev pub e1Lists : Lists
+e1Lists =
+    lists (negsuc 1 ∷ pos 9 ∷ pos 4 ∷ pos 5 ∷ []) (replicate 4 0) (replicate 4 8) (replicate 4 0) (replicate 4 10) (replicate 4 0) (4 ∷ 4 ∷ 5 ∷ 5 ∷ 6 ∷ 6 ∷ 6 ∷ [])
+
+abbrev e2 : ℤ → SplitCall
+e2 M = splitCall (replicate 3 (pos 0)) (replicate 3 (pos 0)) (replicate 3 (pos 1)) (replicate 3 (pos 0)) M (replicate 3 (pos 9))
+
+abbrev e3 : SplitCall
+e3 = splitCall (replicate 2 (pos 0)) (replicate 2 (pos 0)) (pos 10 ∷ pos 3 ∷ []) (pos 1 ∷ pos 3 ∷ []) (pos 8) (replicate 2 (pos 9))
+
+abbrev e4 : ℕ → List ℕ → ReconstructCall
+e4 M parents =
+    reconstructCall (lists (pos 3 ∷ pos 5 ∷ []) (3 ∷ 5 ∷ []) (4 ∷ 6 ∷ []) (replicate 2 0) (replicate 2 10) (replicate 2 0) parents)
+    M (replicate 2 9) (replicate 18 (pos 1))
+
+abbrev e8 : ReconstructCall
+e8 = reconstructCall (lists (pos 3 ∷ []) (0 ∷ []) (5 ∷ []) (0 ∷ []) (10 ∷ []) (0 ∷ []) (0 ∷ [])) 7 (9 ∷ []) (replicate 6 (pos 1))
+
+-- the double of a bit pattern; a target, a low and a high, with 0 in the other fields
+abbrev bits : ℕ → Float
+bits n = ofBits binary64 n
+
+abbrev cell : ℕ → ℕ → ℕ → CellDoubles
+cell t l h = record { target = bits t; low = bits l; high = bits h; «safe_low» = bits 0; «safe_high» = bits 0 }
+
+-- ---- what must be given
+
+abbrev done : List ℤ → Given
+done masses = split (accepted tt) masses
+
+abbrev repaired : ℕ → ℕ → ℕ → List ℕ → Given
+repaired outcome total change masses = repair (accepted (record { outcome = outcome; total = total; change = change })) masses
+
+abbrev units : ℤ → Given
+units t = import (accepted (record { target = t; low = 0; high = 0; «safe_low» = 0; «safe_high» = 0 })) []
+
+pub record Row : Type 0 where
+  pub asked : Asked
+  pub wanted : Given
+
+abbrev row : Asked → Given → Row
+row asked wanted = record { asked = asked; wanted = wanted }
+
+abbrev pub e1 : Row
+e1 = row (prints (fieldBytes e1Lists 16)) (text (ascii "outcome 0 cells 4 total 16 change 4\n0 0 2\n1 7 -2\n2 4 0\n3 5 0\n"))
+
+abbrev pub others : List Row
+others =
+    -- E2
+    row (splits (e2 (pos 2))) (done (pos 0 ∷ pos 1 ∷ pos 1 ∷ []))
+    ∷ row (splits (e2 (pos 3))) (done (pos 1 ∷ pos 1 ∷ pos 1 ∷ []))
+    ∷ row (splits (e2 (pos 4))) (split (refused 8 0) (replicate 3 (pos 9)))
+    -- E3
+    ∷ row (splits e3) (done (pos 5 ∷ pos 3 ∷ []))
+    -- E4, E5, E6
+    ∷ row (repairs (e4 4 (2 ∷ 2 ∷ 2 ∷ []))) (repaired 1 4 4 (2 ∷ 2 ∷ []))
+    ∷ row (repairs (e4 14 (2 ∷ 2 ∷ 2 ∷ []))) (repaired 2 14 6 (6 ∷ 8 ∷ []))
+    ∷ row (repairs (e4 20 (2 ∷ 2 ∷ 2 ∷ []))) (repaired 2 20 12 (10 ∷ 10 ∷ []))
+    ∷ row (repairs (e4 21 (2 ∷ 2 ∷ 2 ∷ []))) (repair (refused 8 0) (9 ∷ 9 ∷ []))
+    -- E7
+    ∷ row (repairs (e4 4 (2 ∷ 2 ∷ []))) (repair (refused 4 0) (9 ∷ 9 ∷ []))
+    -- E8
+    ∷ row (repairs e8) (repaired 2 7 4 (7 ∷ []))
+    -- E9: targets 2.5, 3.5, −2.5
+    ∷ row (imports (cell 0x4004_0000_0000_0000 0 0)) (units (pos 2))
+    ∷ row (imports (cell 0x400c_0000_0000_0000 0 0)) (units (pos 4))
+    ∷ row (imports (cell 0xc004_0000_0000_0000 0 0)) (units (negsuc 1))
+    -- E10: −0.25 as low and as high
+    ∷ row (imports (cell 0 0xbfd0_0000_0000_0000 0)) (units (pos 0))
+    ∷ row (imports (cell 0 0 0xbfd0_0000_0000_0000)) (import (refused 11 2) (bits 0xbfd0_0000_0000_0000 ∷ []))
+    ∷ []
+
+-- the table
+abbrev pub rows : List Row
+rows = e1 ∷ others

@@ -1,0 +1,64 @@
+-- 'Where programs stray' of 01: fields at which a program that strays gives something else, by the definitions that Reconstruct's
+-- contract cites. Assumes nothing.
+use mathlib.Core.Path.{_≡_, refl}
+use mathlib.Core.List.{List, [], _∷_, map}
+use Prim.Native.Nat.{ℕ}
+use lib.IntN.{pos, negsuc}
+use lib.ListN.{replicate}
+use Rattle.numbers.specs.Sums.{sumTo}
+use Rattle.numbers.specs.Lists.{listTo}
+use Rattle.numbers.specs.Signed.{minℤ, maxℤ}
+use Rattle.numbers.specs.Quota.{quota}
+use Rattle.numbers.specs.Checks.{Answered, accepted, answered, after, eachFrom, firstFrom, checkCount}
+use Rattle.caas_spec.specs.Split.{clip, clipped, deficit, capacity, portion, firstShare, remainder, left, secondShare, shares, result}
+use Rattle.qlt_spec.specs.declared.Repair.{Repair}
+use Rattle.qlt_spec.specs.Tree.{leads, childOf, anyChild, nodeSum, parentOk, nodeOk, massFrom, massAt}
+use Rattle.qlt_spec.specs.Field.{lists, field, outcome, outcomeNumber, lowIn, highIn, changeOf}
+use Rattle.qlt_spec.specs.Masses.{massBetween, groupOf, treeMass, treeMasses}
+use Rattle.qlt_spec.specs.Checks.{checkNodes, checkLists, checkTree, boundsOrdered, checkOrder, checkSum, checkReach, checkShape, checkValues}
+use Rattle.qlt_spec.specs.Operation.{ReconstructCall, reconstructCall, reconstructVerdict, repair}
+
+-- a call, what it tells, and the masses that it leaves
+pub record Row : Type 0 where
+  pub given : ReconstructCall
+  pub told : Answered Repair
+  pub masses : List ℕ
+
+-- E1 with no tree: sharing over all cells
+abbrev flat : ReconstructCall
+flat =
+    reconstructCall (lists (negsuc 1 ∷ pos 9 ∷ pos 4 ∷ pos 5 ∷ []) (replicate 4 0) (replicate 4 8) (replicate 4 0) (replicate 4 10) (replicate 4 0) (replicate 5 4))
+    16 (replicate 4 9) (replicate 42 (pos 1))
+
+-- targets −3, 10, 5, the first two below one node: clipped before they are added up they would give 0 6 4
+abbrev clipping : ReconstructCall
+clipping =
+    reconstructCall (lists (negsuc 2 ∷ pos 10 ∷ pos 5 ∷ []) (replicate 3 0) (replicate 3 8) (replicate 3 0) (replicate 3 10) (replicate 3 0) (3 ∷ 3 ∷ 4 ∷ 4 ∷ 4 ∷ []))
+    10 (replicate 3 9) (replicate 30 (pos 1))
+
+-- E4's field at a total that equals the sum of the lows, or of the highs: no safety bounds
+abbrev equal : ℕ → ReconstructCall
+equal M =
+    reconstructCall (lists (pos 3 ∷ pos 5 ∷ []) (3 ∷ 5 ∷ []) (4 ∷ 6 ∷ []) (replicate 2 0) (replicate 2 10) (replicate 2 0) (2 ∷ 2 ∷ 2 ∷ []))
+    M (replicate 2 9) (replicate 18 (pos 1))
+
+abbrev pub rows : List Row
+rows =
+    record { given = flat; told = accepted (record { outcome = 0; total = 16; change = 4 }); masses = 0 ∷ 8 ∷ 4 ∷ 4 ∷ [] }
+    ∷ record { given = clipping; told = accepted (record { outcome = 0; total = 10; change = 8 }); masses = 0 ∷ 5 ∷ 5 ∷ [] }
+    ∷ record { given = equal 8; told = accepted (record { outcome = 0; total = 8; change = 0 }); masses = 3 ∷ 5 ∷ [] }
+    ∷ record { given = equal 10; told = accepted (record { outcome = 0; total = 10; change = 2 }); masses = 4 ∷ 6 ∷ [] }
+    ∷ []
+
+abbrev pub got : Row → Row
+got r =
+    record {
+      given = r .given;
+      told = answered (reconstructVerdict (r .given)) (repair (r .given .lists) (r .given .total));
+      masses = after (reconstructVerdict (r .given)) (treeMasses (field (r .given .lists)) (r .given .total)) (r .given .masses);
+    }
+
+-- what the definitions give, in every row
+pub strays : map got rows ≡ rows
+unfolding sumTo listTo minℤ maxℤ quota eachFrom firstFrom checkCount clip clipped deficit capacity portion firstShare remainder left secondShare shares result leads childOf anyChild nodeSum parentOk nodeOk massFrom massAt outcome outcomeNumber lowIn highIn changeOf massBetween groupOf treeMass treeMasses checkNodes checkLists checkTree boundsOrdered checkOrder checkSum checkReach checkShape checkValues reconstructVerdict repair
+strays = refl

@@ -1,0 +1,64 @@
+-- The bytes of a field file ('Files' of 01), and where each number of it stands. Assumes nothing.
+use mathlib.Core.Bool.{cond}
+use mathlib.Core.List.{List, [], _∷_}
+use Prim.Native.Nat.{ℕ, _+_, _-_}
+use lib.Dec.{leb}
+use Rattle.numbers.specs.Lists.{at, atℤ}
+use Rattle.blocks.specs.Words.{signedWord}
+use Rattle.blocks.specs.declared.tables.Table.{Table}
+use Rattle.blocks.specs.Blocks.{fileBytes}
+use Rattle.blocks.specs.Tables.{table, tableBlocks, tableUsed, tableWords, tableWord, listTable, listBlock}
+use Rattle.qlt_spec.specs.Field.{Lists, cells, nodes}
+
+-- ---- sizes: one block, then cells, 20 to a block, six words each, then parents, 125 to a block
+abbrev pub cellTable : Table
+cellTable = table 6 20
+
+abbrev pub cellBlocks : ℕ → ℕ
+cellBlocks n = tableBlocks cellTable n
+
+abbrev pub parentBlocks : ℕ → ℕ
+parentBlocks m = tableBlocks listTable m
+
+abbrev pub fieldBlocks : ℕ → ℕ → ℕ
+fieldBlocks n m = 1 + cellBlocks n + parentBlocks m
+
+-- ---- the payload words of each block of a field f with the total M
+
+-- the six words of cell i, the target in two's complement
+abbrev pub cellWords : Lists → ℕ → List ℕ
+cellWords f i =
+    signedWord (atℤ (f .targets) i) ∷ at (f .lows) i ∷ at (f .highs) i ∷ at (f .safeLows) i ∷ at (f .safeHighs) i ∷ at (f .weights) i ∷ []
+
+-- the k-th block of cells and the k-th block of parents, each from 0
+abbrev pub cellBlock : Lists → ℕ → List ℕ
+cellBlock f k = tableWords cellTable (cells f) (λ i j. at (cellWords f i) j) k
+
+abbrev pub parentBlock : Lists → ℕ → List ℕ
+parentBlock f k = listBlock (nodes f) (f .parents) k
+
+unfoldable pub fieldWords : Lists → ℕ → ℕ → List ℕ
+fieldWords f M b =
+    cond (leb b 1) (512 ∷ cells f ∷ nodes f ∷ M ∷ [])
+    (cond (leb b (1 + cellBlocks (cells f))) (cellBlock f (b - 2))
+    (parentBlock f (b - (2 + cellBlocks (cells f)))))
+
+-- the whole file
+unfoldable pub fieldBytes : Lists → ℕ → List ℕ
+fieldBytes f M = fileBytes (fieldWords f M) (fieldBlocks (cells f) (nodes f))
+
+-- ---- reading
+
+-- how many payload words block b uses, in a file of n cells and m nodes
+unfoldable pub fieldUsed : ℕ → ℕ → ℕ → ℕ
+fieldUsed n m b =
+    cond (leb b 1) 4
+    (cond (leb b (1 + cellBlocks n)) (tableUsed cellTable n (b - 2))
+    (tableUsed listTable m (b - (2 + cellBlocks n))))
+
+-- word k of cell i, and parent i in a file of n cells
+abbrev pub cellWord : List ℕ → ℕ → ℕ → ℕ
+cellWord file k i = tableWord cellTable file 2 k i
+
+abbrev pub parentWord : List ℕ → ℕ → ℕ → ℕ
+parentWord file n i = tableWord listTable file (2 + cellBlocks n) 0 i

@@ -1,0 +1,50 @@
+-- What a field file can hold, and what reading it back means. Assumes nothing.
+use mathlib.Core.Path.{_≡_}
+use Prim.Native.Nat.{ℕ, _^_, _≤_, _<_}
+use lib.IntN.{pos, negsuc}
+use lib.Signed.{_≤ℤ_}
+use lib.ListN.{length}
+use Rattle.numbers.specs.declared.Checked.the-variants.{Pass}
+use Rattle.numbers.specs.Lists.{atℤ, written}
+use Rattle.blocks.specs.Words.{Words}
+use Rattle.qlt_spec.specs.Field.{Lists, lists, cells, nodes}
+use Rattle.files_spec.specs.FieldFile.{fieldBytes}
+use Rattle.files_spec.specs.ReadField.{readVerdict, sizesOf, listsRead}
+
+-- the lists f and the total M are those of a field that a file can hold
+pub record Storable (f : Lists) (M : ℕ) : Type 0 where
+  pub some : 0 < cells f
+  pub few : cells f ≤ 512
+  pub nodes-room : cells f ≤ nodes f
+  pub nodes-few : nodes f ≤ 1024
+  -- a value of each cell in each list
+  pub lows : length (f .lows) ≡ cells f
+  pub highs : length (f .highs) ≡ cells f
+  pub safeLows : length (f .safeLows) ≡ cells f
+  pub safeHighs : length (f .safeHighs) ≡ cells f
+  pub weights : length (f .weights) ≡ cells f
+  -- each value fits its word
+  pub least : (i : ℕ) → i < cells f → negsuc 2147483647 ≤ℤ atℤ (f .targets) i
+  pub most : (i : ℕ) → i < cells f → atℤ (f .targets) i ≤ℤ pos 2147483647
+  pub low-words : Words (f .lows)
+  pub high-words : Words (f .highs)
+  pub safe-low-words : Words (f .safeLows)
+  pub safe-high-words : Words (f .safeHighs)
+  pub weight-words : Words (f .weights)
+  pub parent-words : Words (f .parents)
+  pub total-word : M < 2 ^ 32
+
+-- reading the file of f and M into the lists s is accepted, tells the sizes and M, and leaves f at the front of s
+pub record FieldBack (f : Lists) (M : ℕ) (s : Lists) : Type 0 where
+  pub passes : readVerdict (fieldBytes f M) s ≡ Pass
+  pub sizes : sizesOf (fieldBytes f M) ≡ record { cells = cells f; nodes = nodes f; total = M }
+  pub leaves :
+      listsRead (fieldBytes f M) s
+      ≡ lists
+      (written (s .targets) 0 (f .targets))
+      (written (s .lows) 0 (f .lows))
+      (written (s .highs) 0 (f .highs))
+      (written (s .safeLows) 0 (f .safeLows))
+      (written (s .safeHighs) 0 (f .safeHighs))
+      (written (s .weights) 0 (f .weights))
+      (written (s .parents) 0 (f .parents))

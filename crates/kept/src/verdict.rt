@@ -1,0 +1,86 @@
+// The checks of Open and Step in 01's order.
+ghost use mathlib.Core.Path.{_≡_};
+ghost use Rattle.qlt_spec.specs.Field.{lists};
+ghost use Rattle.kept_spec.specs.Open.{openVerdict};
+ghost use Rattle.kept_spec.specs.Step.{stepCall, stepVerdict};
+use crate::totals::add_source;
+use crate::totals::check_kept;
+use crate::totals::check_total;
+use crate::totals::whole;
+use field_checks::shape::check_shape;
+use field_checks::total::check_reach;
+use field_checks::values::check_values;
+use numbers::Checked;
+use numbers::arith::signed;
+use numbers::checks::check_count;
+use numbers::lists::sum_of;
+
+// Open's checks: 1; 13.
+pub fn open_verdict(kept: &[u32]) -> Checked
+    ensures { λ r. ⌜ r ≡ openVerdict (now (kept .entry)) ⌝ }
+{
+    let count = check_count(kept.len());
+    if let Checked::Fail { number, place } = count {
+        return Checked::Fail { number, place };
+    }
+    check_total(signed(sum_of(kept)))
+}
+
+// Step's checks: 1 to 3, the kept list counted under 3; 4 to 7; 12; 13; 8.
+pub fn step_verdict(
+    total: u32,
+    kept: &[u32],
+    source: i32,
+    targets: &[i32],
+    lows: &[u32],
+    highs: &[u32],
+    safe_lows: &[u32],
+    safe_highs: &[u32],
+    weights: &[u32],
+    parents: &[u32],
+    scratch: &[i64],
+) -> Checked
+    ensures { λ r.
+        ⌜ r ≡ stepVerdict
+        (stepCall total (now (kept .entry)) source
+        (lists (now (targets .entry)) (now (lows .entry)) (now (highs .entry)) (now («safe_lows» .entry)) (now («safe_highs» .entry))
+        (now (weights .entry)) (now (parents .entry)))
+        (now (scratch .entry))) ⌝ }
+{
+    let shape = check_shape(
+        targets.len(),
+        parents.len(),
+        kept.len(),
+        lows.len(),
+        highs.len(),
+        safe_lows.len(),
+        safe_highs.len(),
+        weights.len(),
+        scratch.len(),
+    );
+    if let Checked::Fail { number, place } = shape {
+        return Checked::Fail { number, place };
+    }
+    let values = check_values(
+        targets,
+        lows,
+        highs,
+        safe_lows,
+        safe_highs,
+        weights,
+        parents,
+    );
+    if let Checked::Fail { number, place } = values {
+        return Checked::Fail { number, place };
+    }
+    let adds_up = check_kept(kept, total);
+    if let Checked::Fail { number, place } = adds_up {
+        return Checked::Fail { number, place };
+    }
+    let next = add_source(total, source);
+    let small = check_total(next);
+    if let Checked::Fail { number, place } = small {
+        return Checked::Fail { number, place };
+    }
+    check_reach(safe_lows, safe_highs, whole(next))
+}

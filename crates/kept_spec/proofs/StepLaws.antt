@@ -1,0 +1,246 @@
+-- What Step's verdict means, that an answer tells its verdict and its values and nothing else, and what the contract alone says of one
+-- call: the facts of an accepted one, that a refused one left both lists, and the account of each. Assumes nothing.
+use mathlib.Core.Path.{_≡_, refl, sym, _∙_, ap, subst}
+use mathlib.Core.Logic.{_⊎_, inl, inr, ⊎-elim, _↔_}
+use mathlib.Core.Bool.{false}
+use mathlib.Core.List.{List, [], _∷_}
+use Prim.Native.Nat.{ℕ, _≤_}
+use native.Mathlib.Omega.{arith}
+use lib.IntN.{pos, _+ℤ_, +ℤ-idr}
+use lib.Signed.{_≤ℤ_}
+use lib.ListN.{length}
+use Rattle.numbers.specs.declared.Checked.{Checked}
+use Rattle.numbers.specs.declared.Checked.the-variants.{Pass, Fail}
+use Rattle.numbers.specs.Sums.{ℕ-adds, sumTo}
+use Rattle.numbers.specs.Lists.{at, sum}
+use Rattle.numbers.specs.Checks.{Answered, accepted, refused, first, both, Rule, Decides, DecidesAll, Holds, Broken, numbersOf, RefuseWith, Extends, maxTotal}
+use Rattle.numbers.proofs.TestLaws.{eq-means, injective}
+use Rattle.numbers.proofs.SignedLaws.{le-parts, parts-le, from-zero-whole}
+use Rattle.numbers.proofs.CheckLaws.{decides-unless, decides-then, decides-append, holds-append, broken-append}
+use Rattle.numbers.proofs.ChainLaws.{extends-fail, isOne, not-broken, refuse-with}
+use Rattle.qlt_spec.specs.declared.Repair.{Repair}
+use Rattle.qlt_spec.specs.Field.{Lists, field, sumCells}
+use Rattle.qlt_spec.specs.Masses.{treeMasses}
+use Rattle.qlt_spec.specs.Facts.{FieldFacts}
+use Rattle.qlt_spec.specs.Checks.{shapeOf, checkValues, checkReach}
+use Rattle.qlt_spec.specs.Operation.{reconstructChecks, reconstructVerdict, FieldLengths, shapeRules, valueRules, reachRule, ShapeFits, ValuesFit, ReconstructFits, repair, RepairContract}
+use Rattle.qlt_spec.proofs.CheckLaws.{shape-decides, shape-holds, values-decides, values-hold, reaches-decides}
+use Rattle.qlt_spec.proofs.OperationLaws as operation
+use Rattle.qlt_spec.proofs.OperationLaws.{told-passed, told-repair, told-masses, told-kept}
+use Rattle.kept_spec.specs.declared.Stepped.{Stepped}
+use Rattle.kept_spec.specs.declared.Stepped.the-variants.{Accepted, Refused}
+use Rattle.kept_spec.specs.Open.{checkTotal, totalRule}
+use Rattle.kept_spec.specs.Step.{StepCall, next, newTotal, repairCall, checkKept, stepChecks, stepVerdict, keptRule, stepRules, StepFits, stepTells, stepAnswer}
+use Rattle.kept_spec.specs.Account.{Event, told, Promised, AcceptedFacts, gain, gainBy}
+use Rattle.kept_spec.proofs.OpenLaws.{total-decides}
+
+-- ---- each check, and the verdict
+
+pub kept-decides : (kept : List ℕ) (total : ℕ) → Decides (checkKept kept total) (keptRule kept total)
+unfolding checkKept
+kept-decides kept total = decides-unless _ 12 (eq-means (sum kept) total)
+
+module _ (c : StepCall) where
+  abbrev k : ℕ
+  k = length (c .kept)
+
+  abbrev s : ℕ
+  s = length (c .scratch)
+
+  -- 12, 13 and 8
+  abbrev totals : Checked
+  totals = first (checkKept (c .kept) (c .total) ∷ checkTotal (next c) ∷ checkReach (c .lists .safeLows) (c .lists .safeHighs) (newTotal c) ∷ [])
+
+  abbrev totalRules : List Rule
+  totalRules = keptRule (c .kept) (c .total) ∷ totalRule (next c) ∷ reachRule (c .lists) (newTotal c) ∷ []
+
+  totals-decides : DecidesAll totals totalRules
+  totals-decides =
+      decides-then _ _ _ _ (kept-decides (c .kept) (c .total))
+      (decides-then _ _ _ _ (total-decides (next c)) (reaches-decides (c .lists) (newTotal c)))
+
+  -- accepted if every rule holds; refused with a number at a place if those before it hold and this one is broken there
+  pub step-decides : DecidesAll (stepVerdict c) (stepRules c)
+  unfolding stepVerdict
+  step-decides =
+      decides-append (shapeOf k (c .lists) s) (both (checkValues (c .lists)) totals) (shapeRules (c .lists) k s) _ (shape-decides (c .lists) k s)
+      (decides-append (checkValues (c .lists)) totals (valueRules (c .lists)) totalRules (values-decides (c .lists)) totals-decides)
+
+  pub step-refuses : (number place : ℕ) → (stepVerdict c ≡ Fail number place) ↔ Broken (stepRules c) number place
+  step-refuses = step-decides .fails
+
+  totals-fit : Holds totalRules → ShapeFits (c .lists) k s → ValuesFit (c .lists) → StepFits c
+  unfolding Holds
+  totals-fit h f g =
+      record {
+        shape = f;
+        values = g;
+        adds-up = h .0;
+        whole = sym (from-zero-whole (next c) (h .1 .0 .0));
+        small = le-parts (h .1 .0 .1) .0;
+        reach = record { least = h .1 .1 .0 .0; most = h .1 .1 .0 .1 };
+      }
+
+  fits-totals : StepFits c → Holds totalRules
+  unfolding Holds
+  fits-totals f = (
+    f .adds-up,
+    (
+      (
+        subst (λ z. pos 0 ≤ℤ z) (f .whole) (parts-le (omega arith)),
+        subst (λ z. z ≤ℤ pos maxTotal) (f .whole) (parts-le (omega (arith, f .small))),
+      ),
+      ((f .reach .least, f .reach .most), tt),
+    ),
+  )
+
+  rules-fit : Holds (stepRules c) ↔ StepFits c
+  rules-fit = (
+    λ h.
+        let a = holds-append (shapeRules (c .lists) k s) _ .0 h in
+        let b = holds-append (valueRules (c .lists)) totalRules .0 (a .1) in
+        totals-fit (b .1) (shape-holds (c .lists) k s .0 (a .0)) (values-hold (c .lists) .0 (b .0)),
+    λ f.
+        holds-append (shapeRules (c .lists) k s) _ .1
+        (shape-holds (c .lists) k s .1 (f .shape), holds-append (valueRules (c .lists)) totalRules .1 (values-hold (c .lists) .1 (f .values), fits-totals f)),
+  )
+
+  pub step-accepts : (stepVerdict c ≡ Pass) ↔ StepFits c
+  step-accepts = (λ e. rules-fit .0 (step-decides .passes .0 e), λ f. step-decides .passes .1 (rules-fit .1 f))
+
+  -- 'As Reconstruct 1 to 7 .. Then 8': Step's checks are Reconstruct's for the new total, with 12 and 13 put in
+  pub step-extends : Extends (λ n. (n ≡ 12) ⊎ (n ≡ 13)) (stepChecks c) (reconstructChecks (repairCall c))
+  step-extends =
+      Extends.shared
+      (Extends.shared
+      (Extends.extra (λ n p e. inl (kept-decides (c .kept) (c .total) .fails n p .0 e .0))
+      (Extends.extra (λ n p e. inr (total-decides (next c) .fails n p .0 e .0)) (Extends.shared Extends.end))))
+
+  -- so a step that is refused is refused with 12 or 13, or as Reconstruct refuses that repair
+  pub step-as-repair : (number place : ℕ) → stepVerdict c ≡ Fail number place → ((number ≡ 12) ⊎ (number ≡ 13)) ⊎ (reconstructVerdict (repairCall c) ≡ Fail number place)
+  unfolding stepVerdict reconstructVerdict
+  step-as-repair number place e = extends-fail step-extends e
+
+  -- it refuses with 01's numbers and no others
+  pub step-numbers : RefuseWith (stepRules c) (1 ∷ 2 ∷ 3 ∷ 4 ∷ 5 ∷ 6 ∷ 7 ∷ 12 ∷ 13 ∷ 8 ∷ [])
+  unfolding shapeRules valueRules
+  step-numbers = refuse-with (stepRules c) _ refl refl
+
+  -- ---- refused for its new total
+
+  -- past 1 to 7 and 12
+  pub record Past : Type 0 where
+    pub shape : ShapeFits (c .lists) k s
+    pub values : ValuesFit (c .lists)
+    pub adds-up : sum (c .kept) ≡ c .total
+
+  past-by :
+      (n : ℕ) → isOne (numbersOf (shapeRules (c .lists) k s)) n ≡ false → isOne (numbersOf (valueRules (c .lists))) n ≡ false → (n ≡ 12 → ⊥)
+      → (number place : ℕ) → number ≡ n → Broken (stepRules c) number place → Past
+  past-by n x y z number place e h =
+      ⊎-elim (λ b. absurd (not-broken (shapeRules (c .lists) k s) n x number place e b))
+      (λ a. ⊎-elim (λ b. absurd (not-broken (valueRules (c .lists)) n y number place e b))
+      (λ b. record { shape = shape-holds (c .lists) k s .0 (a .0); values = values-hold (c .lists) .0 (b .0); adds-up = adds (b .1) })
+      (broken-append (valueRules (c .lists)) totalRules number place .0 (a .1)))
+      (broken-append (shapeRules (c .lists) k s) _ number place .0 h)
+    where
+      adds : Broken totalRules number place → sum (c .kept) ≡ c .total
+      adds g = unfold Broken in (⊎-elim (λ b. absurd (z (sym e ∙ b .0))) (λ b. b .0) g)
+
+  -- a call refused with 13 or 8 is past them
+  pub refused-for-total : (number place : ℕ) → stepVerdict c ≡ Fail number place → (number ≡ 13) ⊎ (number ≡ 8) → Past
+  unfolding shapeRules valueRules
+  refused-for-total number place e o =
+      ⊎-elim (λ x. past-by 13 refl refl (λ q. omega arith) number place x (step-refuses number place .0 e))
+      (λ x. past-by 8 refl refl (λ q. omega arith) number place x (step-refuses number place .0 e)) o
+
+-- ---- the answer
+
+pub answer-tells : (a : Answered Repair) → stepTells (stepAnswer a) ≡ a
+unfolding stepTells
+answer-tells (accepted r) = refl
+answer-tells (refused number place) = refl
+
+-- what an answer tells is the answer
+pub step-tells-injective : (a b : Stepped) → stepTells a ≡ stepTells b → a ≡ b
+unfolding stepTells
+step-tells-injective = injective stepAnswer back
+  where
+    back : (a : Stepped) → stepAnswer (stepTells a) ≡ a
+    back (Accepted r) = refl
+    back (Refused number place) = refl
+
+-- ---- an accepted call
+
+module _ (f : Lists) {k s : ℕ} (l : FieldLengths f k s) (M : ℕ) where
+  -- the sums of the safety bounds, by the lists and over the cells, bound the same totals
+  pub least-cells : (sum (f .safeLows) ≤ M) ↔ (sumCells (field f) (at (f .safeLows)) ≤ M)
+  least-cells =
+      let e = ap (λ n. sumTo ℕ-adds n (at (f .safeLows)) ≤ M) (l .safeLows) in
+      (λ h. subst (λ X. X) e h, λ h. subst (λ X. X) (sym e) h)
+
+  pub most-cells : (M ≤ sum (f .safeHighs)) ↔ (M ≤ sumCells (field f) (at (f .safeHighs)))
+  most-cells =
+      let e = ap (λ n. M ≤ sumTo ℕ-adds n (at (f .safeHighs))) (l .safeHighs) in
+      (λ h. subst (λ X. X) e h, λ h. subst (λ X. X) (sym e) h)
+
+module _ (c : StepCall) (fits : StepFits c) where
+  -- the repair that it asks for fits
+  pub fits-repair : ReconstructFits (repairCall c)
+  fits-repair = record { shape = fits .shape; values = fits .values; reach = fits .reach }
+
+  -- so its masses have every fact
+  pub fits-facts : FieldFacts (field (c .lists)) (newTotal c) (treeMasses (field (c .lists)) (newTotal c))
+  fits-facts = operation.fits-facts (repairCall c) fits-repair
+
+  -- and add up to the new total
+  pub fits-sum : sum (treeMasses (field (c .lists)) (newTotal c)) ≡ newTotal c
+  fits-sum = ap (λ n. sumTo ℕ-adds n (at (treeMasses (field (c .lists)) (newTotal c)))) (fits-facts .count) ∙ fits-facts .total
+
+-- ---- from the contract alone
+
+module _ (e : Event) (p : Promised e) where
+  abbrev c : StepCall
+  c = e .call
+
+  abbrev Told : Answered Repair → Type 0
+  Told a = RepairContract (stepVerdict c) (repairCall c) a (e .kept) (e .scratch)
+
+  -- a call that told a repair fits; its masses are the whole tree's and have every fact, and its scratch is cleared
+  module _ (r : Repair) (t : told e ≡ accepted r) where
+    so : Told (accepted r)
+    so = subst Told t p
+
+    pub accepted-fits : StepFits c
+    accepted-fits = step-accepts c .0 (told-passed so)
+
+    pub accepted-total : r .total ≡ newTotal c
+    unfolding repair
+    accepted-total = ap (λ q. q .total) (told-repair so)
+
+    pub accepted-sum : sum (e .kept) ≡ r .total
+    accepted-sum = ap sum (told-masses so) ∙ fits-sum c accepted-fits ∙ sym accepted-total
+
+    pub accepted-facts : AcceptedFacts c r (e .kept)
+    accepted-facts =
+        record {
+          moves = ap pos accepted-total ∙ accepted-fits .whole;
+          tells = told-repair so ∙ ap (repair (c .lists)) (sym accepted-total);
+          masses = told-masses so ∙ ap (treeMasses (field (c .lists))) (sym accepted-total);
+          facts =
+              subst (λ M. FieldFacts (field (c .lists)) M (e .kept)) (sym accepted-total)
+              (subst (FieldFacts (field (c .lists)) (newTotal c)) (sym (told-masses so)) (fits-facts c accepted-fits));
+        }
+
+  -- a call that told a refusal left both lists as they were
+  pub refused-keeps : (number place : ℕ) → told e ≡ refused number place → (e .kept ≡ c .kept) × (e .scratch ≡ c .scratch)
+  refused-keeps number place t = told-kept (subst Told t p)
+
+  -- the account of one call by itself: an accepted one is past check 12
+  pub step-account : pos (sum (e .kept)) ≡ pos (sum (c .kept)) +ℤ gain e
+  step-account = by-told (told e) refl
+    where
+      by-told : (a : Answered Repair) → told e ≡ a → pos (sum (e .kept)) ≡ pos (sum (c .kept)) +ℤ gainBy a (c .source)
+      by-told (accepted r) t =
+          ap pos (accepted-sum r t) ∙ accepted-facts r t .moves ∙ ap (λ n. pos n +ℤ c .source) (sym (accepted-fits r t .adds-up))
+      by-told (refused number place) t = ap (λ l. pos (sum l)) (refused-keeps number place t .0) ∙ sym (+ℤ-idr (pos (sum (c .kept))))

@@ -1,0 +1,93 @@
+-- The operation Step: what it is given, its verdict, its answer, and the lists it leaves. Assumes nothing.
+use mathlib.Core.Path.{_≡_}
+use mathlib.Core.List.{List, [], _∷_, _++_}
+use Prim.Native.Nat.{ℕ, _≤_}
+use lib.Dec.{eqb}
+use lib.IntN.{ℤ, pos, _+ℤ_}
+use lib.ListN.{length}
+use Rattle.numbers.specs.declared.Checked.{Checked}
+use Rattle.numbers.specs.Signed.{over}
+use Rattle.numbers.specs.Checks.{Answered, accepted, refused, unless, first, Rule, rule, maxTotal}
+use Rattle.qlt_spec.specs.declared.Repair.{Repair}
+use Rattle.qlt_spec.specs.Field.{Lists}
+use Rattle.numbers.specs.Lists.{sum}
+use Rattle.qlt_spec.specs.Checks.{shapeOf, checkValues, checkReach}
+use Rattle.qlt_spec.specs.Operation.{ReconstructCall, reconstructCall, shapeRules, valueRules, reachRule, ShapeFits, ValuesFit, Reaches, RepairContract}
+use Rattle.kept_spec.specs.declared.Stepped.{Stepped}
+use Rattle.kept_spec.specs.declared.Stepped.the-variants.{Accepted, Refused}
+use Rattle.kept_spec.specs.Open.{checkTotal, totalRule}
+
+-- all that a call is given
+pub record StepCall : Type 0 where
+  pub total : ℕ
+  pub kept : List ℕ
+  pub source : ℤ
+  pub lists : Lists
+  pub scratch : List ℤ
+
+abbrev pub stepCall : ℕ → List ℕ → ℤ → Lists → List ℤ → StepCall
+stepCall total kept source lists scratch = record { total = total; kept = kept; source = source; lists = lists; scratch = scratch }
+
+-- the total given plus the source; as a natural number it is the field's M
+abbrev pub next : StepCall → ℤ
+next c = pos (c .total) +ℤ c .source
+
+abbrev pub newTotal : StepCall → ℕ
+newTotal c = over (next c)
+
+-- the repair that it asks for: that of its field for the new total, the kept masses in the place of the masses
+abbrev pub repairCall : StepCall → ReconstructCall
+repairCall c = reconstructCall (c .lists) (newTotal c) (c .kept) (c .scratch)
+
+-- ---- the checks
+
+-- 12: kept masses that do not add up to the total given
+unfoldable pub checkKept : List ℕ → ℕ → Checked
+checkKept kept total = unless (eqb (sum kept) total) 12 0
+
+-- 1 to 3, the kept list counted under 3; 4 to 7; 12; 13; 8
+abbrev pub stepChecks : StepCall → List Checked
+stepChecks c =
+    shapeOf (length (c .kept)) (c .lists) (length (c .scratch))
+    ∷ checkValues (c .lists)
+    ∷ checkKept (c .kept) (c .total)
+    ∷ checkTotal (next c)
+    ∷ checkReach (c .lists .safeLows) (c .lists .safeHighs) (newTotal c)
+    ∷ []
+
+unfoldable pub stepVerdict : StepCall → Checked
+stepVerdict c = first (stepChecks c)
+
+-- ---- what the checks mean
+
+abbrev pub keptRule : List ℕ → ℕ → Rule
+keptRule kept total = rule 12 (sum kept ≡ total)
+
+abbrev pub stepRules : StepCall → List Rule
+stepRules c =
+    shapeRules (c .lists) (length (c .kept)) (length (c .scratch))
+    ++ (valueRules (c .lists)
+    ++ (keptRule (c .kept) (c .total) ∷ totalRule (next c) ∷ reachRule (c .lists) (newTotal c) ∷ []))
+
+pub record StepFits (c : StepCall) : Type 0 where
+  pub shape : ShapeFits (c .lists) (length (c .kept)) (length (c .scratch))
+  pub values : ValuesFit (c .lists)
+  pub adds-up : sum (c .kept) ≡ c .total
+  pub whole : pos (newTotal c) ≡ next c
+  pub small : newTotal c ≤ maxTotal
+  pub reach : Reaches (c .lists) (newTotal c)
+
+-- ---- the answer, and the lists at exit
+
+-- what an answer tells, and the answer that tells it
+unfoldable pub stepTells : Stepped → Answered Repair
+stepTells (Accepted r) = accepted r
+stepTells (Refused number place) = refused number place
+
+abbrev pub stepAnswer : Answered Repair → Stepped
+stepAnswer (accepted r) = Accepted r
+stepAnswer (refused number place) = Refused number place
+
+-- the whole contract of the operation: that of a repair for the new total, by Step's verdict
+abbrev pub StepContract : StepCall → Stepped → List ℕ → List ℤ → Type 0
+StepContract c answer kept scratch = RepairContract (stepVerdict c) (repairCall c) (stepTells answer) kept scratch

@@ -1,0 +1,190 @@
+// A test program: a kept field through years of steps. It opens 8 cells, makes 12,000 Step calls with fields drawn by a generator, some
+// with a fault, and prints a line every 500 calls: the calls accepted and refused, the total standing, and the sum and a check number of
+// the kept masses. The sum must be the total in every line. `stdout` was written by an implementation of 01's own words in another
+// language, and not by this program. Masses stay far below 1000000000, so that the remainders by it, which rule out overflow, change none.
+// Relies on `kept`, which it tests, `kept_spec` and `qlt_spec` for the answers, `test_support`, and `numbers` in proofs.
+ghost use Prim.Native.Nat.{_<_, _≤_};
+use draws::draw;
+use draws::less;
+use kept_spec::Opened;
+use kept_spec::Stepped;
+use qlt_spec::Repair;
+
+mod draws;
+mod fields;
+mod output;
+
+// The generator's state, the calls accepted and refused so far, and the total standing.
+pub struct Run {
+    pub state: u32,
+    pub accepted: u32,
+    pub refused: u32,
+    pub total: u32,
+}
+
+// One more. Counters and totals stay below 1000000000.
+fn more(x: u32) -> u32 {
+    x % 1000000000 + 1
+}
+
+// The total given: the one standing, or by fault 1 another.
+fn given_total(total: u32, fault: u32) -> u32 {
+    if fault == 1 {
+        return more(total);
+    }
+    total
+}
+
+// The source given: the one drawn, or by faults 4 and 5 one that is refused.
+fn given_source(drawn: u32, fault: u32) -> i32
+    requires { ⌜ drawn < 2000000000 ⌝ }
+{
+    if fault == 4 {
+        return -2147483648;
+    }
+    if fault == 5 {
+        return 2000000;
+    }
+    less(drawn, 1500)
+}
+
+// The run after an accepted call.
+fn accepted(run: Run, state: u32, repair: Repair) -> Run {
+    Run {
+        state,
+        accepted: more(run.accepted),
+        refused: run.refused,
+        total: repair.total,
+    }
+}
+
+// The run after a refused call.
+fn refused(run: Run, state: u32) -> Run {
+    Run {
+        state,
+        accepted: run.accepted,
+        refused: more(run.refused),
+        total: run.total,
+    }
+}
+
+// The run after a call.
+fn counted(run: Run, state: u32, answer: Stepped) -> Run {
+    match answer {
+        Stepped::Accepted(repair) => accepted(run, state, repair),
+        Stepped::Refused { number, place } => refused(run, state),
+    }
+}
+
+// Steps by the first m parents, and with a scratch of its own.
+fn step_by(
+    total: u32,
+    kept: &mut [u32; 8],
+    source: i32,
+    targets: &[i32; 8],
+    lows: &[u32; 8],
+    highs: &[u32; 8],
+    safe_lows: &[u32; 8],
+    safe_highs: &[u32; 8],
+    weights: &[u32; 8],
+    parents: &[u32; 15],
+    m: usize,
+) -> Stepped
+    requires { ⌜ m ≤ 15 ⌝ }
+{
+    let mut scratch = [0i64; 90];
+    let nodes = &parents[..];
+    kept::step(
+        total,
+        kept,
+        source,
+        targets,
+        lows,
+        highs,
+        safe_lows,
+        safe_highs,
+        weights,
+        &nodes[0..m],
+        &mut scratch,
+    )
+}
+
+// Draws a field and steps by it.
+fn one_call(run: Run, kept: &mut [u32; 8]) -> Run {
+    let kind = draw(run.state, 3);
+    let mut targets = [0i32; 8];
+    let mut lows = [0u32; 8];
+    let mut highs = [0u32; 8];
+    let mut safe_lows = [0u32; 8];
+    let mut safe_highs = [0u32; 8];
+    let mut weights = [0u32; 8];
+    let state = fields::fill(
+        kind.state,
+        kept,
+        &mut targets,
+        &mut lows,
+        &mut highs,
+        &mut safe_lows,
+        &mut safe_highs,
+        &mut weights,
+    );
+    let source = draw(state, 3001);
+    let fault = draw(source.state, 8);
+    fields::cross(fault.value, &mut lows, &mut highs);
+    let mut parents = [0u32; 15];
+    fields::fill_parents(kind.value, fault.value, &mut parents);
+    let answer = step_by(
+        given_total(run.total, fault.value),
+        kept,
+        given_source(source.value, fault.value),
+        &targets,
+        &lows,
+        &highs,
+        &safe_lows,
+        &safe_highs,
+        &weights,
+        &parents,
+        fields::nodes(kind.value),
+    );
+    counted(run, fault.state, answer)
+}
+
+// Makes 500 calls.
+fn some_calls(run: Run, kept: &mut [u32; 8]) -> Run {
+    let mut now = run;
+    let mut i: usize = 0;
+    while i < 500 {
+        now = one_call(now, kept);
+        i += 1;
+    }
+    now
+}
+
+// Makes 24 times 500 calls, and prints a line after each 500.
+fn all_calls(total: u32, kept: &mut [u32; 8]) {
+    let mut now = Run {
+        state: 1,
+        accepted: 0,
+        refused: 0,
+        total,
+    };
+    let mut i: u64 = 0;
+    while i < 24 {
+        now = some_calls(now, kept);
+        i += 1;
+        output::show(i * 500, now, kept);
+    }
+}
+
+// Opens the field, and steps if it is accepted.
+fn main() {
+    let mut kept = [1000u32; 8];
+    let answer = kept::open(&kept);
+    match answer {
+        Opened::Total(total) => {
+            output::show_open(total);
+            all_calls(total, &mut kept);
+        }
+        Opened::Refused { number, place } => {}
+    }
+}

@@ -1,0 +1,20 @@
+-- `numbers::arith::quotient` meets its contract: the guard answers 0 where b is 0, and else the machine divides.
+use mathlib.Core.Path.{sym}
+use borrow.Author.Needs.{needs}
+use Rattle.numbers.specs.Quota.{quota}
+use Rattle.numbers.proofs.QuotaLaws.{quota-none}
+use Rattle.numbers.proofs.arith.quotient.Statement.{statement}
+use Rattle.numbers.proofs.arith.quotient.Tie as tie
+
+returns : tie.Need-returns
+returns c = rw (c .if1 .taken) (sym (quota-none (c .before .args .a)))
+
+div-result : tie.Need-div-result
+div-result c = search needs
+
+returns-2 : tie.Need-returns-2
+unfolding quota
+returns-2 c = search needs
+
+pub quotient-spec : {M : Type 1} → statement M
+quotient-spec = tie.close (tie.spec returns div-result returns-2)

@@ -1,0 +1,133 @@
+-- What Reconstruct's verdict means, that an answer tells its verdict and its values and nothing else, and what the contract alone says
+-- of an accepted and of a refused call. Assumes nothing.
+use mathlib.Core.Path.{_≡_, refl, sym, _∙_, ap, subst}
+use mathlib.Core.Logic.{_↔_}
+use mathlib.Core.List.{List, [], _∷_}
+use Prim.Native.Nat.{ℕ, _*_, _≤_}
+use lib.IntN.{ℤ}
+use lib.ListN.{length}
+use Rattle.numbers.specs.declared.Checked.{Checked}
+use Rattle.numbers.specs.declared.Checked.the-variants.{Pass, Fail}
+use Rattle.numbers.specs.Sums.{ℕ-adds, sumTo}
+use Rattle.numbers.specs.Lists.{at}
+use Rattle.numbers.specs.Checks.{Answered, accepted, refused, answered, after, both, DecidesAll, Broken, RefuseWith}
+use Rattle.numbers.proofs.TestLaws.{injective}
+use Rattle.numbers.proofs.CheckLaws.{answered-accepted, answered-refused, after-fail, on, last, both-first, both-second, decides-append}
+use Rattle.numbers.proofs.ChainLaws.{refuse-with}
+use Rattle.qlt_spec.specs.declared.Repair.{Repair}
+use Rattle.qlt_spec.specs.declared.Reconstructed.{Reconstructed}
+use Rattle.qlt_spec.specs.declared.Reconstructed.the-variants.{Done, Refused}
+use Rattle.qlt_spec.specs.Tree.{Valid}
+use Rattle.qlt_spec.specs.Field.{Lists, cells, nodes, scratchPerNode, field}
+use Rattle.qlt_spec.specs.Masses.{treeMasses}
+use Rattle.qlt_spec.specs.Checks.{shapeOf, checkValues, checkReach}
+use Rattle.qlt_spec.specs.Operation.{ReconstructCall, reconstructVerdict, shapeRules, valueRules, reconstructRules, ShapeFits, ValuesFit, ReconstructFits, repair, reconstructTells, reconstructAnswer, cleared, RepairContract, ReconstructContract}
+use Rattle.qlt_spec.specs.Facts.{FieldFacts}
+use Rattle.qlt_spec.proofs.FactLaws.{facts}
+use Rattle.qlt_spec.proofs.CheckLaws.{shape-decides, shape-fits, values-decides, values-fit, reaches-decides, reaches, valid}
+
+pub fits-valid : {f : Lists} {k s : ℕ} → ShapeFits f k s → ValuesFit f → Valid (at (f .parents)) (cells f) (nodes f)
+fits-valid h r = valid (h .some) (h .nodes-room) (r .tree)
+
+-- ---- the verdict
+
+module _ (c : ReconstructCall) where
+  abbrev k : ℕ
+  k = length (c .masses)
+
+  abbrev s : ℕ
+  s = length (c .scratch)
+
+  abbrev reach : Checked
+  reach = checkReach (c .lists .safeLows) (c .lists .safeHighs) (c .total)
+
+  -- accepted if every rule holds; refused with a number at a place if those before it hold and this one is broken there
+  pub reconstruct-decides : DecidesAll (reconstructVerdict c) (reconstructRules c)
+  unfolding reconstructVerdict
+  reconstruct-decides =
+      decides-append (shapeOf k (c .lists) s) (both (checkValues (c .lists)) (both reach Pass)) (shapeRules (c .lists) k s) _ (shape-decides (c .lists) k s)
+      (decides-append (checkValues (c .lists)) (both reach Pass) (valueRules (c .lists)) _ (values-decides (c .lists)) (reaches-decides (c .lists) (c .total)))
+
+  pub reconstruct-refuses : (number place : ℕ) → (reconstructVerdict c ≡ Fail number place) ↔ Broken (reconstructRules c) number place
+  reconstruct-refuses = reconstruct-decides .fails
+
+  pub reconstruct-accepts : (reconstructVerdict c ≡ Pass) ↔ ReconstructFits c
+  unfolding reconstructVerdict
+  reconstruct-accepts = (
+    λ e.
+        let p = both-second (shapeOf k (c .lists) s) _ e in
+        record {
+          shape = shape-fits (c .lists) k s .0 (both-first (shapeOf k (c .lists) s) _ e);
+          values = values-fit (c .lists) .0 (both-first (checkValues (c .lists)) _ p);
+          reach = reaches (c .lists) (c .total) .0 (both-first reach Pass (both-second (checkValues (c .lists)) _ p));
+        },
+    λ r.
+        sym (on (shape-fits (c .lists) k s .1 (r .shape))
+        (on (values-fit (c .lists) .1 (r .values)) (last reach (sym (reaches (c .lists) (c .total) .1 (r .reach)))))),
+  )
+
+  -- it refuses with 01's numbers and no others
+  pub reconstruct-numbers : RefuseWith (reconstructRules c) (1 ∷ 2 ∷ 3 ∷ 4 ∷ 5 ∷ 6 ∷ 7 ∷ 8 ∷ [])
+  unfolding shapeRules valueRules
+  reconstruct-numbers = refuse-with (reconstructRules c) _ refl refl
+
+-- ---- the answer
+
+-- what an answer tells is the answer
+pub reconstruct-tells-injective : (a b : Reconstructed) → reconstructTells a ≡ reconstructTells b → a ≡ b
+unfolding reconstructTells
+reconstruct-tells-injective = injective reconstructAnswer back
+  where
+    back : (a : Reconstructed) → reconstructAnswer (reconstructTells a) ≡ a
+    back (Done r) = refl
+    back (Refused number place) = refl
+
+-- an accepted call's masses have every fact
+pub fits-facts : (c : ReconstructCall) → ReconstructFits c → FieldFacts (field (c .lists)) (c .total) (treeMasses (field (c .lists)) (c .total))
+fits-facts c f =
+    let l = f .shape .lengths in
+    facts (field (c .lists)) (fits-valid (f .shape) (f .values)) (f .values .order) (c .total)
+    (subst (λ n. sumTo ℕ-adds n (at (c .lists .safeLows)) ≤ c .total) (l .safeLows) (f .reach .least))
+    (subst (λ n. c .total ≤ sumTo ℕ-adds n (at (c .lists .safeHighs))) (l .safeHighs) (f .reach .most))
+
+-- ---- from the contract alone, by any verdict: Reconstruct's and Step's alike
+
+module _ {v : Checked} {c : ReconstructCall} {masses : List ℕ} {scratch : List ℤ} where
+  -- a call that told a repair passed; its answer, its masses and its scratch are what the definitions say
+  module _ {r : Repair} (p : RepairContract v c (accepted r) masses scratch) where
+    pub told-passed : v ≡ Pass
+    told-passed = answered-accepted v r (repair (c .lists) (c .total)) (p .answers) .0
+
+    pub told-repair : r ≡ repair (c .lists) (c .total)
+    told-repair = answered-accepted v r (repair (c .lists) (c .total)) (p .answers) .1
+
+    pub told-masses : masses ≡ treeMasses (field (c .lists)) (c .total)
+    told-masses = p .leaves .writes ∙ ap (λ w. after w (treeMasses (field (c .lists)) (c .total)) (c .masses)) told-passed
+
+    pub told-scratch : scratch ≡ cleared (scratchPerNode * nodes (c .lists)) (c .scratch)
+    told-scratch = p .leaves .clears ∙ ap (λ w. after w (cleared (scratchPerNode * nodes (c .lists)) (c .scratch)) (c .scratch)) told-passed
+
+  -- one that told a refusal was refused so, and left both lists as they were
+  module _ {number place : ℕ} (p : RepairContract v c (refused number place) masses scratch) where
+    pub told-failed : v ≡ Fail number place
+    told-failed = answered-refused v (repair (c .lists) (c .total)) number place (p .answers)
+
+    pub told-kept : (masses ≡ c .masses) × (scratch ≡ c .scratch)
+    told-kept = (
+      p .leaves .writes ∙ ap (λ w. after w (treeMasses (field (c .lists)) (c .total)) (c .masses)) told-failed,
+      p .leaves .clears ∙ ap (λ w. after w (cleared (scratchPerNode * nodes (c .lists)) (c .scratch)) (c .scratch)) told-failed,
+    )
+
+-- and the contract by the verdict: of a call that is refused, and of one that is accepted
+pub contract-refused : {v : Checked} (c : ReconstructCall) {number place : ℕ} → v ≡ Fail number place → RepairContract v c (refused number place) (c .masses) (c .scratch)
+contract-refused c e = record { answers = ap (λ w. answered w (repair (c .lists) (c .total))) (sym e); leaves = record { writes = after-fail _ _ e; clears = after-fail _ _ e } }
+
+pub contract-done :
+    {v : Checked} (c : ReconstructCall) {told : Answered Repair} {masses : List ℕ} {scratch : List ℤ} → v ≡ Pass → RepairContract Pass c told masses scratch
+    → RepairContract v c told masses scratch
+contract-done c {told} {masses} {scratch} e p = subst (λ w. RepairContract w c told masses scratch) (sym e) p
+
+-- every fact of the whole tree of a call that was answered Done
+pub done-facts : {c : ReconstructCall} (r : Repair) {masses : List ℕ} {scratch : List ℤ} → ReconstructContract c (Done r) masses scratch → FieldFacts (field (c .lists)) (c .total) masses
+unfolding reconstructTells
+done-facts {c} r p = subst (FieldFacts (field (c .lists)) (c .total)) (sym (told-masses p)) (fits-facts c (reconstruct-accepts c .0 (told-passed p)))

@@ -1,0 +1,42 @@
+-- The whole tree: the root has mass M, and each inner node's mass is split among its children, bounds in force summed. Assumes nothing.
+use mathlib.Core.List.{List}
+use Prim.Native.Nat.{ℕ}
+use lib.IntN.{ℤ}
+use Rattle.numbers.specs.Sums.{ℕ-adds, ℤ-adds}
+use Rattle.numbers.specs.Lists.{listTo}
+use Rattle.caas_spec.specs.Group.{Group}
+use Rattle.caas_spec.specs.Split.{result}
+use Rattle.qlt_spec.specs.Tree.{childOf, nodeSum, massAt}
+use Rattle.qlt_spec.specs.Field.{Field, Outcome, outcome, lowIn, highIn}
+
+-- ---- between any bounds of the cells
+
+module _ (up : ℕ → ℕ) (n m : ℕ) (target : ℕ → ℤ) (weight low high : ℕ → ℕ) where
+  -- a node's children in rising number, each with the sums over its cells
+  abbrev pub childrenBetween : ℕ → Group
+  childrenBetween v =
+      record {
+        size = m;
+        has = λ u. childOf up u v;
+        target = nodeSum ℤ-adds up n m target;
+        low = nodeSum ℕ-adds up n m low;
+        high = nodeSum ℕ-adds up n m high;
+        weight = nodeSum ℕ-adds up n m weight;
+      }
+
+  -- a node's mass, where the root has M
+  unfoldable pub massBetween : ℕ → ℕ → ℕ
+  massBetween M = massAt up m (λ v. result (childrenBetween v)) M
+
+-- ---- by the bounds in force
+
+-- a node's children
+unfoldable pub groupOf : Field → Outcome → ℕ → Group
+groupOf F o v = childrenBetween (F .up) (F .n) (F .m) (F .target) (F .weight) (lowIn o F) (highIn o F) v
+
+-- a node's mass, and the cells' masses
+unfoldable pub treeMass : Field → ℕ → ℕ → ℕ
+treeMass F M = massBetween (F .up) (F .n) (F .m) (F .target) (F .weight) (lowIn (outcome F M) F) (highIn (outcome F M) F) M
+
+unfoldable pub treeMasses : Field → ℕ → List ℕ
+treeMasses F M = listTo (F .n) (treeMass F M)

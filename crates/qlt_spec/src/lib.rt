@@ -1,0 +1,19 @@
+// QLT over whole masses: the tree, the field, the bounds in force, the whole tree and what holds of it, and what the operation Reconstruct
+// checks, answers and writes. Definitions (specs/) and laws (proofs/) alone; the code is in the crates `field_checks`, `solve` and
+// `reconstruct`. Relies on `caas_spec` and `numbers`.
+
+// The numbers of scratch for each node; `scratchPerNode` in specs/Field.antt.
+pub const SCRATCH_PER_NODE: usize = 6;
+
+// What an accepted field gives beside its masses, in 01's terms: the outcome, M and the change.
+pub struct Repair {
+    pub outcome: u32,
+    pub total: u32,
+    pub change: u64,
+}
+
+// Reconstruct's answer: the masses are written, or the call is refused with 01's number and place.
+pub enum Reconstructed {
+    Done(Repair),
+    Refused { number: u32, place: u32 },
+}

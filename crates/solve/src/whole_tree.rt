@@ -1,0 +1,69 @@
+// The masses of a whole tree by the bounds in force: the columns from the lists, the splits from the root down, the masses out of their
+// column, and the scratch cleared. Relies on `load` and `descend`.
+ghost use mathlib.Core.Path.{_≡_};
+ghost use lib.ListN.{length};
+ghost use Rattle.solve_spec.specs.Solve.{Solvable, Prepared, Solved};
+use crate::descend::descend;
+use crate::load::change;
+use crate::load::clear;
+use crate::load::fill_with;
+use crate::load::load;
+use crate::load::load_targets;
+use crate::load::take_out;
+use numbers::arith::stored_index;
+use scratch_spec::FIRST;
+use scratch_spec::HIGH;
+use scratch_spec::LOW;
+use scratch_spec::MASS;
+use scratch_spec::WEIGHT;
+use scratch_spec::WIDTH;
+use walks::columns::put;
+
+// The columns of all nodes before the splits: sums over their cells, no first child yet, and the root's mass.
+fn prepare(
+    parents: &[u32],
+    targets: &[i32],
+    lows: &[u32],
+    highs: &[u32],
+    weights: &[u32],
+    mass: u64,
+    s: &mut [i64],
+)
+    requires { ⌜ Solvable (now parents) (now targets) (now lows) (now highs) (now weights) mass (now s) ⌝ }
+    ensures { λ _.
+        ⌜ Prepared (now (parents .entry)) (now (targets .entry)) (now (lows .entry)) (now (highs .entry)) (now (weights .entry)) mass
+        (now (s .entry)) (now (s .exit)) ⌝ }
+{
+    let m = parents.len();
+    load_targets(parents, targets, m, s);
+    load(parents, lows, m, LOW, s);
+    load(parents, highs, m, HIGH, s);
+    load(parents, weights, m, WEIGHT, s);
+    fill_with(s, FIRST, stored_index(m), m);
+    put(s, MASS, m - 1, mass);
+}
+
+// The cells' masses, where the root has `mass` and each node's low and high are the sums of its cells'; gives the change that they make.
+// The scratch's first rows, one for each node, are 0 afterwards.
+pub fn solve(
+    parents: &[u32],
+    targets: &[i32],
+    lows: &[u32],
+    highs: &[u32],
+    weights: &[u32],
+    mass: u64,
+    s: &mut [i64],
+    masses: &mut [u32],
+) -> u64
+    requires { ⌜ Solvable (now parents) (now targets) (now lows) (now highs) (now weights) mass (now s) ⌝ }
+    requires { ⌜ length (now masses) ≡ length (now targets) ⌝ }
+    ensures { λ r.
+        ⌜ Solved (now (parents .entry)) (now (targets .entry)) (now (lows .entry)) (now (highs .entry)) (now (weights .entry)) mass
+        (now (s .entry)) (now (s .exit)) (now (masses .exit)) r ⌝ }
+{
+    prepare(parents, targets, lows, highs, weights, mass, s);
+    descend(parents, targets.len(), parents.len(), s);
+    take_out(s, masses);
+    clear(s, WIDTH * parents.len());
+    change(masses, targets)
+}

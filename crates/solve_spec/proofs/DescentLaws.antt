@@ -1,0 +1,187 @@
+-- The splits of all inner nodes, in falling number: each can be made when its turn comes, and together they leave the masses. Assumes nothing.
+use mathlib.Core.Path.{_≡_, refl, sym, _∙_, ap, ap₂, subst}
+use mathlib.Core.Bool.{true}
+use mathlib.Core.List.{List}
+use Prim.Native.Nat.{ℕ, _-_, _^_, _≤_, _<_}
+use native.Mathlib.Omega.{arith}
+use native.Mathlib.Decide.{ℕ-discrete}
+use lib.IntN.{ℤ, pos}
+use Rattle.numbers.specs.Sums.{ℕ-adds}
+use Rattle.numbers.specs.Signed.{over}
+use Rattle.caas_spec.specs.Group.{Each, sumIn}
+use Rattle.caas_spec.specs.Split.{result}
+use Rattle.caas_spec.proofs.ExtLaws.{all-ext, result-ext, splits-ext}
+use Rattle.scratch_spec.specs.Columns.{MASS, LOW, HIGH, WEIGHT, col, num}
+use Rattle.scratch_spec.specs.Walks.{onChainOf, groupIn, Splitting, SplitDone}
+use Rattle.scratch_spec.proofs.ColumnLaws.{kept-start, kept-on}
+use Rattle.scratch_spec.proofs.NodeLaws.{num-kept}
+use Rattle.qlt_spec.specs.Tree.{childOf, massAt, Valid}
+use Rattle.qlt_spec.proofs.TreeLaws.{child-yes, child-other, child-up, child-low}
+use Rattle.qlt_spec.proofs.MassLaws.{mass-root, mass-up}
+use Rattle.solve_spec.specs.Descent.{Linked, SameData, groupBy, massIn, Planned, Descended, DescendState}
+use Rattle.solve_spec.proofs.LinkLaws.{root-none, linked-has, linked-rising, linked-kept}
+
+-- a tree that breaks no rule for n cells breaks none for one cell; linking asks no more
+pub valid-one : {up : ℕ → ℕ} {n m : ℕ} → Valid up n m → Valid up 1 m
+valid-one ok =
+    record {
+      some = omega arith;
+      room = omega (arith, ok .some, ok .room);
+      top = ok .top;
+      rises = ok .rises;
+      inner = λ v l. omega (arith, ok .some, ok .inner v l);
+      inside = ok .inside;
+    }
+
+-- ---- the masses by the columns: the root's is there, any other node's is a result of its parent's
+
+module _ {up : ℕ → ℕ} {n m : ℕ} (ok : Valid up n m) (s : List ℤ) where
+  pub mass-top : massIn up m s (m - 1) ≡ num MASS s (m - 1)
+  unfolding massIn
+  mass-top = mass-root ok (λ v. result (groupBy up m v s)) (num MASS s (m - 1))
+
+  pub mass-step : (u : ℕ) → u < m - 1 → massIn up m s u ≡ result (groupBy up m (up u) s) (massIn up m s (up u)) u
+  unfolding massIn
+  mass-step u l = mass-up ok (λ v. result (groupBy up m v s)) (num MASS s (m - 1)) u l
+
+-- ---- linking leaves what the masses go by
+
+module _ {up : ℕ → ℕ} {n m : ℕ} {s t : List ℤ} (plan : Planned up n m s) (same : SameData m s t) where
+  col-same : (j : ℕ) → j < 4 → col j t ≡ col j s
+  col-same j l i u = same .cols j u l i
+
+  num-same : (j : ℕ) → j < 4 → num j t ≡ num j s
+  num-same j l i u = over (same .cols j u l i)
+
+  group-same : (v : ℕ) → groupBy up m v t ≡ groupBy up m v s
+  group-same v i =
+      record {
+        size = m;
+        has = λ u. childOf up u v;
+        target = col-same MASS (omega arith) i;
+        low = num-same LOW (omega arith) i;
+        high = num-same HIGH (omega arith) i;
+        weight = num-same WEIGHT (omega arith) i;
+      }
+
+  pub mass-same : (u : ℕ) → massIn up m t u ≡ massIn up m s u
+  unfolding massIn
+  mass-same u i = massAt up m (λ v. result (group-same v i)) (num-same MASS (omega arith) i (m - 1)) u
+
+  pub planned-same : Planned up n m t
+  planned-same =
+      record {
+        valid = plan .valid;
+        size = omega (arith, plan .size, same .long);
+        top = same .cols MASS (m - 1) (omega arith) ∙ plan .top ∙ ap pos (ap over (sym (same .cols MASS (m - 1) (omega arith))));
+        can = λ v h l. rw (mass-same v, group-same v) (plan .can v h l);
+        small = λ v h l. subst (λ x. x < 2 ^ 31) (ap₂ (sumIn ℕ-adds) (sym (group-same v)) (sym (num-same HIGH (omega arith)))) (plan .small v h l);
+        light = λ v h l. subst (λ x. x < 2 ^ 31) (ap₂ (sumIn ℕ-adds) (sym (group-same v)) (sym (num-same WEIGHT (omega arith)))) (plan .light v h l);
+      }
+
+-- ---- the splits
+
+module _ {up : ℕ → ℕ} {n m : ℕ} {s : List ℤ} (plan : Planned up n m s) (links : Linked up m 0 s) where
+  ok : Valid up n m
+  ok = plan .valid
+
+  pub down-start : DescendState up n m s m s
+  down-start =
+      record {
+        low = ok .room;
+        within = omega arith;
+        kept = kept-start MASS m s;
+        top = plan .top;
+        done = λ u l h. absurd (omega (arith, ok .inside u l));
+        todo = λ u l h. refl;
+      }
+
+  module _ {v : ℕ} {new : List ℤ} (st : DescendState up n m s v new) (l : n < v) where
+    abbrev pub node : ℕ
+    node = v - 1
+
+    node-in : node < m
+    node-in = omega (arith, st .within)
+
+    links′ : Linked up m 0 new
+    links′ = linked-kept (st .kept) links
+
+    -- the chain of the node has its children, whose values are still the first ones; the node has its mass
+    has-is : (u : ℕ) → u < m → onChainOf node new u ≡ childOf up u node
+    has-is = linked-has ok links′ node-in
+
+    target-is : Each (groupIn m node new) (λ u. col MASS new u ≡ col MASS s u)
+    target-is u i e =
+        let j : childOf up u node ≡ true = sym (has-is u i) ∙ e in
+        st .todo u (child-low ok u node i j) (omega (arith, child-up up u node j))
+
+    value-is : (j : ℕ) → j < 6 → 0 < j → Each (groupIn m node new) (λ u. num j new u ≡ num j s u)
+    value-is j a b u i e = num-kept (st .kept) j u a b
+
+    mass-is : num MASS new node ≡ massIn up m s node
+    mass-is = go (ℕ-discrete node (m - 1))
+      where
+        go : Dec (node ≡ m - 1) → num MASS new node ≡ massIn up m s node
+        go (yes e) = ap (num MASS new) e ∙ ap over (st .top) ∙ sym (ap (massIn up m s) e ∙ mass-top ok s)
+        go (no e) = ap over (st .done node (omega (arith, node-in)) (omega (arith, ok .rises node (omega (arith, node-in)))))
+
+    -- so it can be split
+    pub down-splitting : Splitting m node new
+    down-splitting =
+        record {
+          rising = linked-rising ok links′ node-in (omega (arith, plan .size, st .kept .long));
+          can =
+              rw mass-is
+              (splits-ext (groupBy up m node s) (groupIn m node new) refl (λ u i. sym (has-is u i))
+              (λ u i e. sym (target-is u i (has-is u i ∙ e)))
+              (λ u i e. sym (value-is LOW (omega arith) (omega arith) u i (has-is u i ∙ e)))
+              (λ u i e. sym (value-is HIGH (omega arith) (omega arith) u i (has-is u i ∙ e)))
+              (λ u i e. sym (value-is WEIGHT (omega arith) (omega arith) u i (has-is u i ∙ e)))
+              (massIn up m s node) (plan .can node (omega arith) node-in));
+          small = omega (arith, plan .small node (omega arith) node-in, all-ext (groupIn m node new) (groupBy up m node s) refl has-is (num HIGH new) (num HIGH s) (value-is HIGH (omega arith) (omega arith)));
+          light = omega (arith, plan .light node (omega arith) node-in, all-ext (groupIn m node new) (groupBy up m node s) refl has-is (num WEIGHT new) (num WEIGHT s) (value-is WEIGHT (omega arith) (omega arith)));
+        }
+
+    -- a turn
+    module _ {t : List ℤ} (p : SplitDone m node new t) where
+      result-is : (u : ℕ) → u < m - 1 → up u ≡ node → onChainOf node new u ≡ true → result (groupIn m node new) (num MASS new node) u ≡ massIn up m s u
+      result-is u i e o =
+          result-ext (groupIn m node new) (groupBy up m node s) refl has-is target-is
+          (value-is LOW (omega arith) (omega arith)) (value-is HIGH (omega arith) (omega arith)) (value-is WEIGHT (omega arith) (omega arith))
+          (num MASS new node) u (omega arith) o
+          ∙ ap (λ M. result (groupBy up m node s) M u) mass-is
+          ∙ ap (λ w. result (groupBy up m w s) (massIn up m s w) u) (sym e)
+          ∙ sym (mass-step ok s u i)
+
+      done-at : (u : ℕ) → u < m - 1 → node ≤ up u → Dec (up u ≡ node) → col MASS t u ≡ pos (massIn up m s u)
+      done-at u i j (yes e) =
+          let o : onChainOf node new u ≡ true = has-is u (omega arith) ∙ child-yes up u node (omega (arith, ok .rises u i)) e in
+          p .done u (omega arith) o ∙ ap pos (result-is u i e o)
+      done-at u i j (no e) = p .same u (omega arith) (has-is u (omega arith) ∙ child-other up u node e) ∙ st .done u i (omega arith)
+
+      pub down-turn : DescendState up n m s node t
+      down-turn =
+          record {
+            low = omega arith;
+            within = omega (arith, node-in);
+            kept = kept-on MASS m s new t (st .kept) (p .kept);
+            top = p .same (m - 1) (omega (arith, node-in)) (has-is (m - 1) (omega (arith, node-in)) ∙ root-none ok node) ∙ st .top;
+            done = λ u i j. done-at u i j (ℕ-discrete (up u) node);
+            todo = λ u i j. p .same u (omega arith) (has-is u (omega arith) ∙ child-other up u node (omega arith)) ∙ st .todo u i (omega arith);
+          }
+
+  pub down-end : {v : ℕ} {new : List ℤ} → DescendState up n m s v new → v ≤ n → (u : ℕ) → u < m → col MASS new u ≡ pos (massIn up m s u)
+  down-end {v} {new} st h u l = go (ℕ-discrete u (m - 1))
+    where
+      go : Dec (u ≡ m - 1) → col MASS new u ≡ pos (massIn up m s u)
+      go (yes e) = ap (col MASS new) e ∙ st .top ∙ sym (ap pos (ap (massIn up m s) e ∙ mass-top ok s))
+      go (no e) = st .done u (omega arith) (omega (arith, ok .inner u (omega arith)))
+
+-- the whole: linked, then split
+pub descended : {up : ℕ → ℕ} {n m v : ℕ} {s t new : List ℤ} → Planned up n m s → SameData m s t → Linked up m 0 t → DescendState up n m t v new → v ≤ n → Descended up m s new
+descended plan same links st h =
+    record {
+      long = st .kept .long ∙ same .long;
+      far = λ i l. st .kept .far i l ∙ same .far i l;
+      masses = λ u l. down-end (planned-same plan same) links st h u l ∙ ap pos (mass-same plan same u);
+    }

@@ -1,0 +1,52 @@
+-- `split_test::output::print_masses` is safe and ends: the index stays within the masses.
+use Prim.Native.Nat.{_≤_, _-_}
+use native.Mathlib.Omega.{arith}
+use borrow.Author.Needs.{needs}
+use lib.ListN.{length}
+use Rattle.split_test.proofs.output.print_masses.Statement.{statement}
+use Rattle.split_test.proofs.output.print_masses.Tie as tie
+
+abbrev Inv-loop : tie.InvT-loop
+Inv-loop xs i₀ i = i ≤ length xs
+
+abbrev μ-loop : tie.MeasureT-loop
+μ-loop xs i₀ i = length xs - i
+
+loop-holds : tie.Need-loop-holds Inv-loop μ-loop
+loop-holds c = omega arith
+
+mul-print-signed : tie.Need-mul-print-signed Inv-loop μ-loop
+mul-print-signed c = search needs
+
+shared-slice-copy-out-print-signed : tie.Need-shared-slice-copy-out-print-signed Inv-loop μ-loop
+shared-slice-copy-out-print-signed c = omega arith
+
+print-signed-requires : tie.Need-print-signed-requires Inv-loop μ-loop
+print-signed-requires c κs = search needs
+
+add-i : tie.Need-add-i Inv-loop μ-loop
+add-i c = omega arith
+
+loop-less : tie.Need-loop-less Inv-loop μ-loop
+loop-less c = omega arith
+
+loop-again : tie.Need-loop-again Inv-loop μ-loop
+loop-again c = omega arith
+
+returns : tie.Need-returns Inv-loop μ-loop
+returns c = search needs
+
+pub print-masses-spec : {M : Type 1} → statement M
+print-masses-spec =
+    tie.close
+    (tie.spec
+    Inv-loop
+    μ-loop
+    loop-holds
+    mul-print-signed
+    shared-slice-copy-out-print-signed
+    print-signed-requires
+    add-i
+    loop-less
+    loop-again
+    returns)

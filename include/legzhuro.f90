@@ -1,0 +1,106 @@
+! Legzhuro from Fortran: an interface for each call of legzhuro.h, which says what each does, what it refuses and with which number.
+!
+! A list is an array followed by its number of elements, as size(kept, kind=c_size_t). Cells and nodes are counted from 0: the mass
+! of cell c is kept(c + 1), the parent of node v is parents(v + 1), and the place of a refusal is counted from 0 too. A refused call
+! leaves every list as it was, so the lists that a call writes are intent(inout).
+!
+! Fortran has no unsigned integers: an unsigned value of 8, 32 or 64 bits is passed as the signed integer with the same bits.
+! A number from 0 to 2147483647 is itself, and so is every number that legzhuro_open and legzhuro_step write. Below 0 an
+! integer(c_int32_t) i stands for i + 2**32; a byte b of a file is iand(int(b), 255).
+module legzhuro
+    use, intrinsic :: iso_c_binding, only: c_double, c_int8_t, c_int32_t, c_int64_t, c_size_t
+    implicit none
+    private
+
+    integer, parameter, public :: legzhuro_max_cells = 512 ! or items
+    integer, parameter, public :: legzhuro_max_nodes = 1024
+    integer(c_int32_t), parameter, public :: legzhuro_max_total = 2147483647
+    integer(c_int32_t), parameter, public :: legzhuro_max_scale = 30
+    integer, parameter, public :: legzhuro_scratch = 6 ! scratch numbers for each node
+    integer, parameter, public :: legzhuro_max_field_file = 18432 ! bytes
+    integer, parameter, public :: legzhuro_max_answer_file = 3072 ! bytes
+
+    public :: legzhuro_reconstruct, legzhuro_split, legzhuro_open, legzhuro_step, legzhuro_import, legzhuro_export
+    public :: legzhuro_number, legzhuro_place
+
+    interface
+        ! Reads a field file, repairs the masses and writes the answer file. Returns 0 or the refusal's number.
+        function legzhuro_reconstruct(file, file_len, answer, answer_len) result(returned) bind(c, name='legzhuro_reconstruct')
+            import :: c_int8_t, c_int32_t, c_size_t
+            integer(c_size_t), value :: file_len, answer_len
+            integer(c_int8_t), intent(in) :: file(file_len)
+            integer(c_int8_t), intent(inout) :: answer(answer_len)
+            integer(c_int32_t) :: returned
+        end function legzhuro_reconstruct
+
+        ! Splits a total among items.
+        function legzhuro_split(targets, targets_len, lows, lows_len, highs, highs_len, weights, weights_len, total, masses, &
+                                masses_len) result(returned) bind(c, name='legzhuro_split')
+            import :: c_int64_t, c_size_t
+            integer(c_size_t), value :: targets_len, lows_len, highs_len, weights_len, masses_len
+            integer(c_int64_t), intent(in) :: targets(targets_len), lows(lows_len), highs(highs_len), weights(weights_len)
+            integer(c_int64_t), value :: total
+            integer(c_int64_t), intent(inout) :: masses(masses_len)
+            integer(c_int64_t) :: returned
+        end function legzhuro_split
+
+        ! Opens a kept field: answer(1) is the total.
+        function legzhuro_open(kept, kept_len, answer, answer_len) result(returned) bind(c, name='legzhuro_open')
+            import :: c_int32_t, c_int64_t, c_size_t
+            integer(c_size_t), value :: kept_len, answer_len
+            integer(c_int32_t), intent(in) :: kept(kept_len)
+            integer(c_int64_t), intent(inout) :: answer(answer_len)
+            integer(c_int64_t) :: returned
+        end function legzhuro_open
+
+        ! Steps a kept field: answer(1) is the outcome, answer(2) the new total, answer(3) the change.
+        function legzhuro_step(total, kept, kept_len, source, targets, targets_len, lows, lows_len, highs, highs_len, safe_lows, &
+                               safe_lows_len, safe_highs, safe_highs_len, weights, weights_len, parents, parents_len, scratch, &
+                               scratch_len, answer, answer_len) result(returned) bind(c, name='legzhuro_step')
+            import :: c_int32_t, c_int64_t, c_size_t
+            integer(c_size_t), value :: kept_len, targets_len, lows_len, highs_len, safe_lows_len, safe_highs_len, weights_len
+            integer(c_size_t), value :: parents_len, scratch_len, answer_len
+            integer(c_int32_t), value :: total, source
+            integer(c_int32_t), intent(inout) :: kept(kept_len)
+            integer(c_int32_t), intent(in) :: targets(targets_len), lows(lows_len), highs(highs_len), safe_lows(safe_lows_len)
+            integer(c_int32_t), intent(in) :: safe_highs(safe_highs_len), weights(weights_len), parents(parents_len)
+            integer(c_int64_t), intent(inout) :: scratch(scratch_len), answer(answer_len)
+            integer(c_int64_t) :: returned
+        end function legzhuro_step
+
+        ! Turns a cell's doubles into units: units(1) to units(5) are target, low, high, safe low and safe high.
+        function legzhuro_import(target, low, high, safe_low, safe_high, scale, units, units_len) result(returned) &
+            bind(c, name='legzhuro_import')
+            import :: c_double, c_int32_t, c_int64_t, c_size_t
+            real(c_double), value :: target, low, high, safe_low, safe_high
+            integer(c_int32_t), value :: scale
+            integer(c_size_t), value :: units_len
+            integer(c_int64_t), intent(inout) :: units(units_len)
+            integer(c_int64_t) :: returned
+        end function legzhuro_import
+
+        ! Turns a mass into a double: value(1).
+        function legzhuro_export(mass, scale, value, value_len) result(returned) bind(c, name='legzhuro_export')
+            import :: c_double, c_int32_t, c_int64_t, c_size_t
+            integer(c_int32_t), value :: mass, scale
+            integer(c_size_t), value :: value_len
+            real(c_double), intent(inout) :: value(value_len)
+            integer(c_int64_t) :: returned
+        end function legzhuro_export
+    end interface
+
+contains
+
+    ! The number of a return value: 0, or that of the refusal. The value of legzhuro_reconstruct is the number itself.
+    pure integer function legzhuro_number(returned)
+        integer(c_int64_t), intent(in) :: returned
+        legzhuro_number = int(ibits(returned, 0, 32))
+    end function legzhuro_number
+
+    ! The place of a refusal, counted from 0.
+    pure integer function legzhuro_place(returned)
+        integer(c_int64_t), intent(in) :: returned
+        legzhuro_place = int(ibits(returned, 32, 32))
+    end function legzhuro_place
+
+end module legzhuro
