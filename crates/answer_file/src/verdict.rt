@@ -2,7 +2,8 @@
 ghost use mathlib.Core.Path.{_≡_};
 ghost use Prim.Native.Nat.{_*_, _≤_};
 ghost use lib.ListN.{length};
-ghost use Rattle.files_spec.specs.WriteAnswer.{answerBlocks, checkSpace, checkOutcome, checkMasses, writeCall, writeVerdict};
+ghost use Rattle.files_spec.specs.AnswerFile.{answerBlocks};
+ghost use Rattle.files_spec.specs.WriteAnswer.{checkSpace, checkOutcome, checkMasses, writeCall, writeVerdict};
 use blocks::tables::LIST;
 use blocks::tables::table_blocks;
 use numbers::Checked;

@@ -4,12 +4,11 @@ ghost use Prim.Native.Nat.{_*_, _≤_};
 ghost use lib.ListN.{length};
 ghost use Rattle.numbers.specs.Lists.{written};
 ghost use Rattle.blocks.specs.Blocks.{blockBytes};
-ghost use Rattle.files_spec.specs.WriteAnswer.{answerBlocks, answerHead, answerBytes, writeCall, writeVerdict, WriteContract};
+ghost use Rattle.files_spec.specs.AnswerFile.{answerBlocks, answerHead, answerBytes};
+ghost use Rattle.files_spec.specs.WriteAnswer.{writeCall, writeVerdict, WriteContract};
 use crate::verdict::file_length;
 use blocks::block::fill_block;
-use blocks::tables::LIST;
-use blocks::tables::put_list_block;
-use blocks::tables::table_blocks;
+use blocks::tables::put_list;
 use files_spec::AnswerWritten;
 use numbers::Checked;
 use qlt_spec::Repair;
@@ -31,12 +30,7 @@ fn put_answer(buffer: &mut [u8], n: usize, repair: Repair, masses: &[u32])
     ensures { λ _. ⌜ now (buffer .exit) ≡ written (now (buffer .entry)) 0 (answerBytes n repair (now (masses .entry))) ⌝ }
 {
     put_head(buffer, n, repair);
-    let count = table_blocks(LIST, n);
-    let mut k: usize = 0;
-    while k < count {
-        put_list_block(buffer, 2, masses, n, k);
-        k += 1;
-    }
+    put_list(buffer, 2, masses, n);
 }
 
 // What a call leaves and answers, by its verdict: a refused one leaves the buffer as it was.

@@ -3,7 +3,7 @@
 use mathlib.Core.Path.{_≡_, refl, sym, ap, ap₂, _∙_}
 use mathlib.Core.Logic.{_↔_}
 use mathlib.Core.List.{List, _++_}
-use Prim.Native.Nat.{ℕ, zero, suc, _+_, _*_, _-_, _^_, _≤_, _<_, min}
+use Prim.Native.Nat.{ℕ, zero, suc, _+_, _*_, _-_, _%_, _^_, _≤_, _<_, min}
 use native.Mathlib.Numerals.{sub-one}
 use native.Mathlib.Decide.{ℕ-discrete}
 use native.Mathlib.Omega.{arith}
@@ -11,14 +11,36 @@ use lib.ListN.{length, take, drop, length-append, length-drop}
 use lib.Seq.{ext-getD, length-take-le, take-add, take-all, take-append-le, drop-append-le, drop-at}
 use Rattle.numbers.specs.declared.Checked.the-variants.{Pass}
 use Rattle.numbers.specs.Lists.{at, listTo, written}
-use Rattle.numbers.specs.Checks.{eachFrom}
+use Rattle.numbers.specs.Checks.{eachFrom, Decides, rule, ruleFor}
+use Rattle.numbers.proofs.TestLaws.{and-means, lt-means, le-means, eq-means}
 use Rattle.numbers.proofs.ListLaws.{length-listTo, getD-listTo}
 use Rattle.numbers.proofs.PartLaws.{take-min, drop-take, written-on}
-use Rattle.numbers.proofs.CheckLaws.{each-passes}
+use Rattle.numbers.proofs.CheckLaws.{decides-for, decides-unless, each-passes}
 use Rattle.blocks.specs.Words.{wordAt, Bytes, Words}
 use Rattle.blocks.specs.Blocks.{blockBytes, fileBytes, blockOf, payloadOf, wordOf, payloadWord, checkBlock, SoundBlock, SpareZero, IsFile}
+use Rattle.blocks.specs.Files.{checkFileLength, FileLength, checkBlockCount, checkMark}
 use Rattle.blocks.proofs.WordLaws.{bytes-append}
 use Rattle.blocks.proofs.BlockLaws.{hasBlock-in, block-word, headWord-suc, length-blockBytes, blockBytes-bytes, written-word, block-fits, block-passes, own-small, own-same}
+
+-- ---- the checks of a file as a whole
+
+pub length-decides : (most l : ℕ) → Decides (checkFileLength most l) (rule 14 (FileLength most l))
+unfolding checkFileLength
+length-decides most l = decides-unless _ 14 (and-means (lt-means 0 l) (and-means (le-means l most) (eq-means (l % 512) 0)))
+
+pub blocks-decides : (l k : ℕ) → Decides (checkBlockCount l k) (rule 14 (l ≡ 512 * k))
+unfolding checkBlockCount
+blocks-decides l k = decides-unless _ 14 (eq-means l (512 * k))
+
+pub mark-decides : (file : List ℕ) → Decides (checkMark file) (ruleFor 16 1 (payloadWord file 1 0 ≡ 512))
+unfolding checkMark
+mark-decides file = decides-for _ 16 1 (eq-means (payloadWord file 1 0) 512)
+
+-- the blocks after the first, in turn
+pub later-fits : (file : List ℕ) (used : ℕ → ℕ) → ((b : ℕ) → used b ≤ 125) → (k : ℕ) → (eachFrom (checkBlock file used) 2 (k - 1) ≡ Pass) ↔ ((b : ℕ) → 2 ≤ b → b ≤ k → SoundBlock (blockOf file b) b × SpareZero file (used b) b)
+later-fits file used u k =
+    let t = each-passes (checkBlock file used) 2 (k - 1) in
+    (λ e b l h. block-fits file used b (u b) .0 (t .0 e b l (omega arith)), λ f. t .1 (λ b l h. block-fits file used b (u b) .1 (f b l (omega arith))))
 
 -- ---- the bytes of a file
 

@@ -1,21 +1,23 @@
 -- Laws of tables: no block uses more words than its payload has, a block holds the words of its records, and they are read back. Assumes
 -- nothing.
-use mathlib.Core.Path.{_≡_, sym, ap, ap₂, _∙_, subst}
-use mathlib.Core.List.{List}
-use Prim.Native.Nat.{ℕ, suc, _+_, _*_, _-_, _/_, _%_, _^_, _≤_, _<_, min}
-use native.Mathlib.Nat.{min-le-left, mul-suc, mul-comm, mul-le-mul-left, mul-le-mul-right, mod-lt, mod-eq-of-lt, div-add-mod, div-eq-of-lt, div-lt-iff-lt-mul, lt-div-mul-add, mul-add-div, mul-add-mod-self-left, div-one, zero-add}
+use mathlib.Core.Path.{_≡_, refl, sym, ap, ap₂, _∙_, subst}
+use mathlib.Core.List.{List, [], _++_, append-assoc, append-nil}
+use Prim.Native.Nat.{ℕ, zero, suc, _+_, _*_, _-_, _/_, _%_, _^_, _≤_, _<_, min}
+use native.Mathlib.Nat.{min-le-left, suc-mul, mul-suc, mul-comm, mul-le-mul-left, mul-le-mul-right, mod-lt, mod-eq-of-lt, div-add-mod, div-eq-of-lt, div-lt-iff-lt-mul, div-mul-le-self, lt-div-mul-add, mul-add-div, mul-add-mod-self-left, div-one, add-zero, zero-add}
 use native.Mathlib.Omega.{arith}
-use lib.ListN.{length, take, drop, set, length-take, length-drop}
+use lib.ListN.{length, take, drop, set, length-append, length-take, length-drop}
 use lib.Seq.{ext-getD}
 use Rattle.numbers.specs.Lists.{at, listTo, written}
+use Rattle.numbers.specs.Checks.{both}
 use Rattle.numbers.proofs.ListLaws.{length-listTo, getD-listTo, listTo-ext, written-next}
-use Rattle.numbers.proofs.PartLaws.{getD-part}
+use Rattle.numbers.proofs.PartLaws.{getD-part, written-empty, written-on}
 use Rattle.blocks.specs.declared.tables.Table.{Table}
 use Rattle.blocks.specs.Words.{Words}
-use Rattle.blocks.specs.Blocks.{fileBytes, payloadWord}
-use Rattle.blocks.specs.Tables.{tableBlocks, tableUsed, TableFits, tableWords, tableWord, HasTable, listTable, listBlock}
+use Rattle.blocks.specs.Blocks.{blockBytes, fileBytes, payloadWord, checkSound, checkSpare, checkBlock}
+use Rattle.blocks.specs.Tables.{tableBlocks, tableUsed, TableFits, tableWords, tableBytes, tableWord, HasTable, listTable, listBlock}
 use Rattle.blocks.proofs.WordLaws.{words-listTo}
-use Rattle.blocks.proofs.FileLaws.{file-word}
+use Rattle.blocks.proofs.BlockLaws.{length-blockBytes}
+use Rattle.blocks.proofs.FileLaws.{fileBytes-next, file-word}
 
 module _ (T : Table) (g : TableFits T) where
   abbrev w : ℕ
@@ -35,6 +37,12 @@ module _ (T : Table) (g : TableFits T) where
   -- the block of a record is one of the table's
   pub block-in : (n i : ℕ) → i < n → i / r < tableBlocks T n
   block-in n i l = div-lt-iff-lt-mul (g .some-records) .1 (omega (arith, lt-div-mul-add {a = n + (r - 1)} {b = r} (g .some-records), g .some-records))
+
+  -- the k-th block of the table holds a record
+  pub block-some : (n k : ℕ) → k < tableBlocks T n → r * k < n
+  block-some n k l =
+      let q : ℕ = tableBlocks T n in
+      omega (arith, mul-le-mul-right r l, suc-mul k r, mul-comm r k, div-mul-le-self (n + (r - 1)) r, g .some-records)
 
   -- a word of a record lies among the words that its block uses
   pub word-used : (n i j : ℕ) → i < n → j < w → w * (i % r) + j < tableUsed T n (i / r)
@@ -70,6 +78,43 @@ module _ (T : Table) (g : TableFits T) where
         getD-listTo _ _ (w * (i % r) + j) 0 (word-used n i j l h)
         ∙ ap₂ v (omega (arith, mul-add-div (g .some-words) (i % r) j, div-eq-of-lt h, div-add-mod i r)) (mul-add-mod-self-left w (i % r) j ∙ mod-eq-of-lt h)
 
+    -- the table's bytes, block by block
+    pub length-tableBytes : (from q : ℕ) → length (tableBytes T n v from q) ≡ 512 * q
+    unfolding tableBytes
+    length-tableBytes from zero = refl
+    length-tableBytes from (suc q) =
+        length-append (tableBytes T n v from q) (blockBytes (from + q) (tableWords T n v q))
+        ∙ omega (arith, length-tableBytes from q, length-blockBytes (from + q) (tableWords T n v q))
+
+    tableBytes-next : (from q : ℕ) → tableBytes T n v from (suc q) ≡ tableBytes T n v from q ++ blockBytes (from + q) (tableWords T n v q)
+    unfolding tableBytes
+    tableBytes-next from q = refl
+
+    -- none, and one block more, written into a list
+    pub table-none : (d : List ℕ) (from : ℕ) → d ≡ written d (512 * (from - 1)) (tableBytes T n v from 0)
+    unfolding tableBytes
+    table-none d from = written-empty d (512 * (from - 1)) [] refl
+
+    pub table-next :
+        (d : List ℕ) (from q at : ℕ) → at ≡ 512 * (from + q - 1) → 0 < from → 512 * (from - 1) ≤ length d
+        → written (written d (512 * (from - 1)) (tableBytes T n v from q)) at (blockBytes (from + q) (tableWords T n v q)) ≡ written d (512 * (from - 1)) (tableBytes T n v from (q + 1))
+    table-next d from q at e z h =
+        let s : q + 1 ≡ suc q = omega arith in
+        written-on d (tableBytes T n v from q) (blockBytes (from + q) (tableWords T n v q)) (512 * (from - 1)) at h (omega (arith, length-tableBytes from q))
+        ∙ rw s (ap (written d (512 * (from - 1))) (sym (tableBytes-next from q)))
+
+    -- they go on with a file whose next words are those of the table
+    pub table-file : (ws : ℕ → List ℕ) (k from q : ℕ) → from ≡ suc k → ((p : ℕ) → p < q → ws (from + p) ≡ tableWords T n v p) → fileBytes ws (k + q) ≡ fileBytes ws k ++ tableBytes T n v from q
+    unfolding tableBytes
+    table-file ws k from zero z h = rw (add-zero k) (sym (append-nil (fileBytes ws k)))
+    table-file ws k from (suc q) z h =
+        let s : k + suc q ≡ suc (k + q) = omega arith in
+        let b : suc (k + q) ≡ from + q = omega arith in
+        ap (fileBytes ws) s
+        ∙ fileBytes-next ws (k + q)
+        ∙ ap₂ (λ x y. x ++ y) (table-file ws k from q z (λ p l. h p (omega arith))) (rw b (ap (blockBytes (from + q)) (h q (omega arith))))
+        ∙ append-assoc (fileBytes ws k) (tableBytes T n v from q) (blockBytes (from + q) (tableWords T n v q))
+
     -- it is read back from a file whose blocks from `from` on are those of the table
     pub table-back : (ws : ℕ → List ℕ) (k from i j : ℕ) → ((q : ℕ) → q < tableBlocks T n → ws (from + q) ≡ tableWords T n v q) → ((i j : ℕ) → i < n → j < w → v i j < 2 ^ 32) → 0 < from → from - 1 + tableBlocks T n ≤ k → k < 2 ^ 32 → i < n → j < w → tableWord T (fileBytes ws k) from j i ≡ v i j
     unfolding tableWord
@@ -94,6 +139,11 @@ module _ (T : Table) (g : TableFits T) where
 
   pub table-room : (file : List ℕ) (from n i : ℕ) → HasTable T file from n → i < n → 512 * (from + i / r) ≤ length file
   table-room file from n i h l = omega (arith, block-in n i l, h .first, h .whole)
+
+-- a block's check goes by the number of words that the block uses
+pub used-same : (file : List ℕ) (v w : ℕ → ℕ) (b : ℕ) → v b ≡ w b → checkBlock file v b ≡ checkBlock file w b
+unfolding checkBlock
+used-same file v w b e = ap (λ i. both (checkSound file b) (checkSpare file i b)) e
 
 -- one entry more is written from the front of a list
 pub next-entry {ℓ} : {X : Type ℓ} (l : List X) (f : ℕ → X) (i : ℕ) {t : List X} {x : X} → i < length l → t ≡ written l 0 (listTo i f) → x ≡ f i → set t i x ≡ written l 0 (listTo (i + 1) f)

@@ -1,10 +1,12 @@
 -- Tables of records in the blocks of a file: so many words to a record, so many records to a block, and block after block. Assumes nothing.
-use mathlib.Core.List.{List}
-use Prim.Native.Nat.{ℕ, _+_, _*_, _-_, _/_, _%_, _≤_, _<_, min}
+use mathlib.Core.List.{List, [], _++_}
+use Prim.Native.Nat.{ℕ, zero, suc, _+_, _*_, _-_, _/_, _%_, _≤_, _<_, min}
 use lib.ListN.{length}
+use Rattle.numbers.specs.declared.Checked.{Checked}
 use Rattle.numbers.specs.Lists.{at, listTo}
+use Rattle.numbers.specs.Checks.{eachFrom}
 use Rattle.blocks.specs.declared.tables.Table.{Table}
-use Rattle.blocks.specs.Blocks.{payloadWord}
+use Rattle.blocks.specs.Blocks.{blockBytes, payloadWord, checkBlock}
 
 abbrev pub table : ℕ → ℕ → Table
 table words records = record { words = words; records = records }
@@ -29,6 +31,11 @@ pub record TableFits (T : Table) : Type 0 where
 unfoldable pub tableWords : Table → ℕ → (ℕ → ℕ → ℕ) → ℕ → List ℕ
 tableWords T n w k = listTo (tableUsed T n k) (λ x. w (T .records * k + x / T .words) (x % T .words))
 
+-- the bytes of the first q of these blocks, the first of them being block `from` of the file
+unfoldable pub tableBytes : Table → ℕ → (ℕ → ℕ → ℕ) → ℕ → ℕ → List ℕ
+tableBytes T n w from zero = []
+tableBytes T n w from (suc q) = tableBytes T n w from q ++ blockBytes (from + q) (tableWords T n w q)
+
 -- ---- reading: a file's table starts at block `from`
 
 -- word j of record i
@@ -40,6 +47,10 @@ pub record HasTable (T : Table) (file : List ℕ) (from n : ℕ) : Type 0 where
   pub fits : TableFits T
   pub first : 0 < from
   pub whole : 512 * (from - 1 + tableBlocks T n) ≤ length file
+
+-- its blocks in order, each by 15, then 16
+unfoldable pub checkTable : Table → List ℕ → ℕ → ℕ → Checked
+checkTable T file from n = eachFrom (checkBlock file (λ b. tableUsed T n (b - from))) from (tableBlocks T n)
 
 -- ---- a list of numbers, 125 to a block
 abbrev pub listTable : Table

@@ -1,9 +1,10 @@
 // Blocks of 512 bytes: words, check words, numbers and payloads. Public: `payload`; what the crates of files need besides is in `words`,
-// `block` and `tables`. Relies on `numbers`.
+// `block`, `files` and `tables`. Relies on `numbers`.
 ghost use denote.Ref.{ptr};
 ghost use Rattle.blocks.specs.Blocks.{PayloadContract};
 
 pub mod block;
+pub mod files;
 pub mod tables;
 pub mod words;
 

@@ -2,13 +2,15 @@
 ghost use mathlib.Core.Path.{_≡_};
 ghost use Prim.Native.Nat.{_+_, _*_, _-_, _/_, _≤_, _<_, _^_};
 ghost use lib.ListN.{length};
-ghost use Rattle.numbers.specs.Lists.{listTo, written};
+ghost use Rattle.numbers.specs.Lists.{at, listTo, written};
 ghost use Rattle.blocks.specs.Words.{wordSigned};
 ghost use Rattle.blocks.specs.Blocks.{blockBytes};
-ghost use Rattle.blocks.specs.Tables.{tableBlocks, tableUsed, TableFits, tableWord, HasTable, listBlock};
+ghost use Rattle.blocks.specs.Tables.{tableBlocks, tableUsed, TableFits, tableBytes, tableWord, HasTable, checkTable, listTable, listBlock};
+use crate::block::check_block;
 use crate::block::fill_block;
 use crate::block::payload_word;
 use crate::words::word_signed;
+use numbers::Checked;
 use numbers::arith::least;
 
 // A layout: how many words a record has, and how many records a block has.
@@ -37,6 +39,24 @@ pub fn table_used(table: Table, n: usize, k: usize) -> usize
     ensures { λ r. ⌜ (r ≡ tableUsed table n k) × (r ≤ 125) ⌝ }
 {
     table.words * least(table.records, n - table.records * k)
+}
+
+// The table's blocks in order, from block `from` on: each by 15, then 16.
+pub fn check_table(file: &[u8], table: Table, from: usize, n: usize) -> Checked
+    requires { ⌜ HasTable table (now file) from n × (n < 2 ^ 32) × (from + tableBlocks table n ≤ 2 ^ 32) ⌝ }
+    ensures { λ r. ⌜ r ≡ checkTable table (now (file .entry)) from n ⌝ }
+{
+    let end = from + table_blocks(table, n);
+    let mut b = from;
+    while b < end {
+        let used = table_used(table, n, b - from);
+        let checked = check_block(file, used, b);
+        if let Checked::Fail { number, place } = checked {
+            return Checked::Fail { number, place };
+        }
+        b += 1;
+    }
+    Checked::Pass
 }
 
 // Word j of record i, where the table starts at block `from`.
@@ -75,7 +95,7 @@ pub fn read_signed(file: &[u8], table: Table, from: usize, j: usize, n: usize, l
 }
 
 // The k-th block of the first n numbers of a list, 125 to a block, the first of them being block `from` of the file.
-pub fn put_list_block(buffer: &mut [u8], from: usize, list: &[u32], n: usize, k: usize)
+fn put_list_block(buffer: &mut [u8], from: usize, list: &[u32], n: usize, k: usize)
     requires { ⌜ (0 < from) × (from + k < 2 ^ 32) × (125 * k < n) × (n ≤ length (now list)) × (512 * (from + k) ≤ length (now buffer)) ⌝ }
     ensures { λ _.
         ⌜ now (buffer .exit) ≡ written (now (buffer .entry)) (512 * (from + k - 1))
@@ -87,4 +107,20 @@ pub fn put_list_block(buffer: &mut [u8], from: usize, list: &[u32], n: usize, k:
     let end = at + 512;
     let number = (from + k) as u32;
     fill_block(&mut buffer[at..end], number, &list[first..last]);
+}
+
+// All blocks of these numbers.
+pub fn put_list(buffer: &mut [u8], from: usize, list: &[u32], n: usize)
+    requires { ⌜ (0 < from) × (n < 2 ^ 32) × (from + tableBlocks listTable n ≤ 2 ^ 32) × (n ≤ length (now list)) ×
+        (512 * (from - 1 + tableBlocks listTable n) ≤ length (now buffer)) ⌝ }
+    ensures { λ _.
+        ⌜ now (buffer .exit) ≡ written (now (buffer .entry)) (512 * (from - 1))
+        (tableBytes listTable n (λ i j. at (now (list .entry)) i) from (tableBlocks listTable n)) ⌝ }
+{
+    let count = table_blocks(LIST, n);
+    let mut k: usize = 0;
+    while k < count {
+        put_list_block(buffer, from, list, n, k);
+        k += 1;
+    }
 }

@@ -1,24 +1,17 @@
--- Laws for the reader in code: checks in two lists, a block's check by the words it uses, the lists as they are read, and
--- the contract by the verdict. Assumes nothing.
+-- Laws for the reader in code: the lists as they are read, and the contract by the verdict. Assumes nothing.
 use mathlib.Core.Path.{_≡_, _∙_, ap}
 use mathlib.Core.List.{List}
 use Prim.Native.Nat.{ℕ, _+_}
 use lib.IntN.{ℤ}
 use Rattle.numbers.specs.declared.Checked.{Checked}
 use Rattle.numbers.specs.Lists.{listTo, written}
-use Rattle.numbers.specs.Checks.{answered, after, both}
+use Rattle.numbers.specs.Checks.{answered, after}
 use Rattle.blocks.specs.Words.{wordSigned}
-use Rattle.blocks.specs.Blocks.{checkSound, checkSpare, checkBlock}
 use Rattle.blocks.specs.Tables.{tableWord, listTable}
 use Rattle.qlt_spec.specs.Field.{Lists, lists}
 use Rattle.files_spec.specs.declared.FieldRead.{FieldRead}
 use Rattle.files_spec.specs.FieldFile.{cellBlocks, cellWord}
-use Rattle.files_spec.specs.ReadField.{fileCells, fileNodes, readVerdict, sizesOf, readTells, listsRead, ReadContract}
-
--- ---- a block's check goes by the number of words that the block uses
-pub used-here : (file : List ℕ) (used : ℕ → ℕ) (k b : ℕ) → k ≡ used b → checkBlock file (λ i. k) b ≡ checkBlock file used b
-unfolding checkBlock
-used-here file used k b e = ap (λ i. both (checkSound file b) (checkSpare file i b)) e
+use Rattle.files_spec.specs.ReadField.{fileCells, fileNodes, readVerdict, sizesOf, readTells, fileLists, listsRead, ReadContract}
 
 -- ---- lists
 
@@ -33,7 +26,7 @@ pub lists-are :
     → f ≡ written (s .weights) 0 (listTo n (cellWord file 5))
     → g ≡ written (s .parents) 0 (listTo m (tableWord listTable file (2 + k) 0))
     → lists a b c d e f g ≡ listsRead file s
-unfolding listsRead
+unfolding fileLists
 lists-are file s p q t h i j k l o r = rw (h, i, j, k, l, o, r, t, p, q)
 
 -- ---- what is left and told goes by the verdict

@@ -6,38 +6,24 @@ ghost use lib.ListN.{length};
 ghost use Rattle.numbers.specs.declared.Checked.the-variants.{Pass};
 ghost use Rattle.numbers.specs.Checks.{first};
 ghost use Rattle.qlt_spec.specs.Field.{lists};
-ghost use Rattle.files_spec.specs.FieldFile.{fieldBlocks, fieldUsed};
-ghost use Rattle.files_spec.specs.ReadField.{checkFileLength, checkMark, checkSizes, checkRoom, blockChecks, sizeChecks, headVerdict, laterVerdict, Measured};
-use blocks::block::check_block;
+ghost use Rattle.files_spec.specs.FieldFile.{fieldBlocks};
+ghost use Rattle.files_spec.specs.ReadField.{checkRoom, blockChecks, sizeChecks, headVerdict, laterVerdict, Measured};
 use blocks::block::check_sound;
 use blocks::block::check_spare;
 use blocks::block::payload_word;
+use blocks::files::check_block_count;
+use blocks::files::check_file_length;
+use blocks::files::check_mark;
 use blocks::tables::LIST;
+use blocks::tables::check_table;
 use blocks::tables::table_blocks;
-use blocks::tables::table_used;
 use field_checks::shape::check_nodes;
 use files_spec::CELLS;
+use files_spec::MAX_FIELD_FILE;
 use numbers::Checked;
-use numbers::checks::and;
 use numbers::checks::check_count;
 use numbers::checks::check_long;
 use numbers::checks::then;
-use numbers::checks::unless;
-
-// 14: the length is not 0, not over 18432, and a multiple of 512.
-fn check_file_length(l: usize) -> Checked
-    ensures { λ r. ⌜ r ≡ checkFileLength l ⌝ }
-{
-    unless(and(0 < l, and(l <= 18432, l % 512 == 0)), 14, 0)
-}
-
-// 16: the first payload word of block 1 is 512.
-fn check_mark(file: &[u8]) -> Checked
-    requires { ⌜ 512 ≤ length (now file) ⌝ }
-    ensures { λ r. ⌜ r ≡ checkMark (now (file .entry)) ⌝ }
-{
-    unless(payload_word(file, 1, 0) == 512, 16, 1)
-}
 
 // Block 1's number, check words, first word and spare words.
 fn head_block(file: &[u8]) -> Checked
@@ -56,14 +42,6 @@ fn field_blocks(n: usize, m: usize) -> usize
     ensures { λ r. ⌜ r ≡ fieldBlocks n m ⌝ }
 {
     1 + table_blocks(CELLS, n) + table_blocks(LIST, m)
-}
-
-// 14: the length is that of n and m.
-fn check_sizes(l: usize, n: usize, m: usize) -> Checked
-    requires { ⌜ (n < 2 ^ 32) × (m < 2 ^ 32) ⌝ }
-    ensures { λ r. ⌜ r ≡ checkSizes l n m ⌝ }
-{
-    unless(l == 512 * field_blocks(n, m), 14, 0)
 }
 
 // 3: each list has room for n or m.
@@ -122,7 +100,10 @@ fn sizes_verdict(
     );
     then(
         check_count(n),
-        then(check_nodes(n, m), then(check_sizes(file.len(), n, m), room)),
+        then(
+            check_nodes(n, m),
+            then(check_block_count(file.len(), field_blocks(n, m)), room),
+        ),
     )
 }
 
@@ -142,7 +123,7 @@ pub fn head_verdict(
         (lists (now (targets .entry)) (now (lows .entry)) (now (highs .entry)) (now («safe_lows» .entry)) (now («safe_highs» .entry))
         (now (weights .entry)) (now (parents .entry))) ⌝ }
 {
-    let length = check_file_length(file.len());
+    let length = check_file_length(MAX_FIELD_FILE, file.len());
     if let Checked::Fail { number, place } = length {
         return Checked::Fail { number, place };
     }
@@ -159,37 +140,16 @@ pub fn head_verdict(
     then(head_block(file), sizes)
 }
 
-// How many payload words a later block uses.
-fn field_used(n: usize, m: usize, b: usize) -> usize
-    requires { ⌜ (1 < b) × (n ≤ 512) × (m ≤ 1024) × (b ≤ fieldBlocks n m) ⌝ }
-    ensures { λ r. ⌜ (r ≡ fieldUsed n m b) × (r ≤ 125) ⌝ }
-{
-    let first = 2 + table_blocks(CELLS, n);
-    if b < first {
-        table_used(CELLS, n, b - 2)
-    } else {
-        table_used(LIST, m, b - first)
-    }
-}
-
-// The later blocks in order.
+// The later blocks in order: those of the cells, then those of the parents.
 fn later_verdict(file: &[u8]) -> Checked
     requires { ⌜ Measured (now file) ⌝ }
     ensures { λ r. ⌜ r ≡ laterVerdict (now (file .entry)) ⌝ }
 {
     let n = payload_word(file, 1, 1) as usize;
     let m = payload_word(file, 1, 2) as usize;
-    let end = 1 + field_blocks(n, m);
-    let mut b: usize = 2;
-    while b < end {
-        let used = field_used(n, m, b);
-        let checked = check_block(file, used, b);
-        if let Checked::Fail { number, place } = checked {
-            return Checked::Fail { number, place };
-        }
-        b += 1;
-    }
-    Checked::Pass
+    let cells = check_table(file, CELLS, 2, n);
+    let parents = check_table(file, LIST, 2 + table_blocks(CELLS, n), m);
+    then(cells, parents)
 }
 
 // The whole verdict, from that of block 1, the sizes and the lists.

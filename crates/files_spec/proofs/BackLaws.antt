@@ -10,7 +10,7 @@ use lib.IntN.{pos}
 use lib.ListN.{length, getD}
 use lib.Seq.{ext-getD}
 use Rattle.numbers.specs.declared.Checked.the-variants.{Pass}
-use Rattle.numbers.specs.Lists.{at, atℤ, listTo, written}
+use Rattle.numbers.specs.Lists.{at, atℤ, listTo}
 use Rattle.numbers.proofs.ListLaws.{length-listTo, getD-listTo}
 use Rattle.blocks.specs.Words.{Words, wordSigned}
 use Rattle.blocks.specs.Blocks.{blockOf, payloadWord, checkBlock, SoundBlock, SpareZero}
@@ -19,9 +19,9 @@ use Rattle.blocks.proofs.WordLaws.{signed-back}
 use Rattle.blocks.proofs.BlockLaws.{block-fits}
 use Rattle.blocks.proofs.FileLaws.{length-fileBytes, file-word, file-passes}
 use Rattle.blocks.proofs.TableLaws.{length-tableWords, tableWords-small, table-back, list-fits}
-use Rattle.qlt_spec.specs.Field.{Lists, lists, cells, nodes}
+use Rattle.qlt_spec.specs.Field.{Lists, cells, nodes}
 use Rattle.files_spec.specs.FieldFile.{cellTable, cellBlocks, fieldBlocks, cellWords, cellBlock, parentBlock, fieldWords, fieldBytes, fieldUsed, cellWord, parentWord}
-use Rattle.files_spec.specs.ReadField.{fileCells, fileNodes, fileTotal, Room, HeadFits, sizesOf, listsRead}
+use Rattle.files_spec.specs.ReadField.{fileCells, fileNodes, fileTotal, Room, HeadFits, sizesOf, fileLists}
 use Rattle.files_spec.specs.Stored.{Storable, FieldBack}
 use Rattle.files_spec.proofs.ReadLaws.{cell-fits, used-small, read-accepts}
 
@@ -180,9 +180,9 @@ module _ (f : Lists) (M : ℕ) where
       sizes : sizesOf file ≡ record { cells = n; nodes = m; total = M }
       sizes = rw (cells-back, nodes-back, total-back)
 
-      leaves : listsRead file s ≡ lists (written (s .targets) 0 (f .targets)) (written (s .lows) 0 (f .lows)) (written (s .highs) 0 (f .highs)) (written (s .safeLows) 0 (f .safeLows)) (written (s .safeHighs) 0 (f .safeHighs)) (written (s .weights) 0 (f .weights)) (written (s .parents) 0 (f .parents))
-      unfolding listsRead
-      leaves =
+      held : fileLists file ≡ f
+      unfolding fileLists
+      held =
           rw (
             targets-back,
             column 1 (f .lows) (omega arith) (g .lows) (λ i. refl),
@@ -204,5 +204,5 @@ field-back f M g s r =
             spare = λ b l h. fits f M g s r b (omega arith) (inside f M g s r b h) .1;
           });
       sizes = sizes f M g s r;
-      leaves = leaves f M g s r;
+      held = held f M g s r;
     }

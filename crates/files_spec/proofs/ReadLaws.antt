@@ -1,29 +1,31 @@
 -- What reading's verdict means, that an answer tells its verdict and its values and nothing else, and what the contract alone says of a
 -- call. Assumes nothing.
-use mathlib.Core.Path.{_≡_, refl, sym, _∙_, ap, subst}
+use mathlib.Core.Path.{_≡_, refl, sym, _∙_, ap, ap₂, subst}
 use mathlib.Core.Logic.{_↔_, inl, inr, ⊎-elim}
 use mathlib.Core.Bool.{Bool, true, false, cond, _&&_}
 use mathlib.Core.List.{List, [], _∷_}
 use Prim.Native.Nat.{ℕ, zero, suc, _+_, _*_, _-_, _%_, _≤_, _<_}
 use native.Mathlib.Omega.{arith}
+use borrow.Author.Tests.{le-leb, lt-leb}
 use lib.Dec.{leb}
 use lib.ListN.{length}
 use Rattle.numbers.specs.declared.Checked.{Checked}
 use Rattle.numbers.specs.declared.Checked.the-variants.{Pass, Fail}
-use Rattle.numbers.specs.Checks.{checkLong, after, unless, both, Rule, Decides, rule, ruleFor, Holds, Broken, DecidesAll, rulesFrom, numbersOf, OneOf, RefuseWith}
+use Rattle.numbers.specs.Checks.{checkLong, after, unless, both, eachFrom, Rule, Decides, rule, ruleFor, Holds, Broken, DecidesAll, rulesFrom, numbersOf, OneOf, RefuseWith}
 use Rattle.numbers.proofs.TestLaws.{and-means, lt-means, le-means, eq-means, injective}
-use Rattle.numbers.proofs.CheckLaws.{on, both-first, both-second, both-pass, unless-and, each-passes, answered-accepted, answered-refused, decides-for, decides-unless, decides-then, decides-none, decides-append, decides-each, count-decides}
-use Rattle.numbers.proofs.ChainLaws.{one-append, numbers-append, refuse-with}
+use Rattle.numbers.proofs.CheckLaws.{on, both-first, both-second, both-pass, unless-and, each-append, each-ext, answered-accepted, answered-refused, decides-for, decides-unless, decides-then, decides-none, decides-append, decides-each, count-decides}
+use Rattle.numbers.proofs.ChainLaws.{refuse-with, refuse-each}
 use Rattle.blocks.specs.Blocks.{blockOf, payloadWord, checkBlock, SoundBlock, SpareZero, blockRules}
-use Rattle.blocks.specs.Tables.{tableUsed, TableFits, listTable}
-use Rattle.blocks.proofs.BlockLaws.{sound-decides, spare-decides, block-decides, block-fits}
-use Rattle.blocks.proofs.TableLaws.{tableUsed-small, list-fits}
+use Rattle.blocks.specs.Tables.{tableBlocks, tableUsed, TableFits, HasTable, checkTable, listTable}
+use Rattle.blocks.proofs.BlockLaws.{sound-decides, spare-decides, block-decides}
+use Rattle.blocks.proofs.FileLaws.{length-decides, blocks-decides, mark-decides, later-fits}
+use Rattle.blocks.proofs.TableLaws.{tableUsed-small, used-same, list-fits}
 use Rattle.qlt_spec.specs.Field.{Lists}
 use Rattle.qlt_spec.proofs.CheckLaws.{nodes-decides}
 use Rattle.files_spec.specs.declared.FieldRead.{FieldRead}
 use Rattle.files_spec.specs.declared.FieldRead.the-variants.{Read, Refused}
 use Rattle.files_spec.specs.FieldFile.{cellTable, cellBlocks, fieldBlocks, fieldUsed}
-use Rattle.files_spec.specs.ReadField.{fileCells, fileNodes, fileTotal, checkFileLength, checkMark, checkSizes, checkRoom, roomOf, headVerdict, laterVerdict, readVerdict, Room, headRules, laterRules, readRules, HeadFits, Measured, ReadFits, Sizes, sizesOf, readTells, fieldReadOf, listsRead, ReadContract}
+use Rattle.files_spec.specs.ReadField.{fileCells, fileNodes, fileTotal, maxFieldFile, checkRoom, roomOf, headVerdict, laterVerdict, readVerdict, Room, headRules, laterRules, readRules, HeadFits, Measured, ReadFits, Sizes, sizesOf, readTells, fieldReadOf, listsRead, ReadContract}
 
 -- ---- each check
 
@@ -40,17 +42,14 @@ used-small n m b = go (leb b 1) (leb b (1 + cellBlocks n))
     go false true = tableUsed-small cellTable cell-fits n (b - 2)
     go false false = tableUsed-small listTable list-fits m (b - (2 + cellBlocks n))
 
-pub length-decides : (l : ℕ) → Decides (checkFileLength l) (rule 14 ((0 < l) × ((l ≤ 18432) × (l % 512 ≡ 0))))
-unfolding checkFileLength
-length-decides l = decides-unless _ 14 (and-means (lt-means 0 l) (and-means (le-means l 18432) (eq-means (l % 512) 0)))
+-- a block of cells uses what the table of cells says, and so for the parents
+used-cells : (n m b : ℕ) → 2 ≤ b → b < 2 + cellBlocks n → fieldUsed n m b ≡ tableUsed cellTable n (b - 2)
+unfolding fieldUsed
+used-cells n m b l h = rw (lt-leb b 1 (omega arith), le-leb b (1 + cellBlocks n) (omega arith))
 
-pub mark-decides : (file : List ℕ) → Decides (checkMark file) (ruleFor 16 1 (payloadWord file 1 0 ≡ 512))
-unfolding checkMark
-mark-decides file = decides-for _ 16 1 (eq-means (payloadWord file 1 0) 512)
-
-pub sizes-decides : (l n m : ℕ) → Decides (checkSizes l n m) (rule 14 (l ≡ 512 * fieldBlocks n m))
-unfolding checkSizes
-sizes-decides l n m = decides-unless _ 14 (eq-means l (512 * fieldBlocks n m))
+used-parents : (n m b : ℕ) → 2 + cellBlocks n ≤ b → fieldUsed n m b ≡ tableUsed listTable m (b - (2 + cellBlocks n))
+unfolding fieldUsed
+used-parents n m b l = rw (lt-leb b 1 (omega arith), lt-leb b (1 + cellBlocks n) (omega arith))
 
 -- one test before others with the same number
 one-more : (a b : Bool) (v : Checked) → v ≡ unless b 3 0 → both (unless a 3 0) v ≡ unless (a && b) 3 0
@@ -81,9 +80,18 @@ room-decides n m s =
       λ r. t .1 (r .targets, (r .lows, (r .highs, (r .safeLows, (r .safeHighs, (r .weights, r .parents)))))),
     ))
 
+-- ---- the tables of a file whose length is that of its cells and nodes
+
+module _ (file : List ℕ) (f : Measured file) (n m : ℕ) (e : n ≡ fileCells file) (d : m ≡ fileNodes file) where
+  pub has-cells : HasTable cellTable file 2 n
+  has-cells = record { fits = cell-fits; first = omega arith; whole = rw e (omega (arith, f .whole)) }
+
+  pub has-parents : HasTable listTable file (2 + cellBlocks n) m
+  has-parents = record { fits = list-fits; first = omega arith; whole = rw (e, d) (omega (arith, f .whole)) }
+
 -- ---- the verdict
 
-module _ (file : List ℕ) (s : Lists) where
+module _ (file : List ℕ) where
   abbrev n : ℕ
   n = fileCells file
 
@@ -93,105 +101,95 @@ module _ (file : List ℕ) (s : Lists) where
   abbrev k : ℕ
   k = fieldBlocks n m
 
-  pub head-decides : DecidesAll (headVerdict file s) (headRules file s)
-  unfolding headVerdict headRules
-  head-decides =
-      decides-then _ _ _ _ (length-decides (length file))
-      (decides-then _ _ _ _ (sound-decides file 1)
-      (decides-then _ _ _ _ (mark-decides file)
-      (decides-then _ _ _ _ (spare-decides file 4 1 (omega arith))
-      (decides-then _ _ _ _ (count-decides n)
-      (decides-then _ _ _ _ (nodes-decides n m)
-      (decides-then _ _ _ _ (sizes-decides (length file) n m)
-      (decides-then _ _ _ _ (room-decides n m s) decides-none)))))))
-
   later-decides : DecidesAll (laterVerdict file) (laterRules file)
   unfolding laterVerdict laterRules
   later-decides = decides-each (checkBlock file (fieldUsed n m)) (blockRules file (fieldUsed n m)) (λ b. block-decides file (fieldUsed n m) b (used-small n m b)) 2 (k - 1)
 
-  chain : readVerdict file s ≡ both (headVerdict file s) (laterVerdict file)
-  unfolding readVerdict
-  chain = ap (both (headVerdict file s)) (both-pass (laterVerdict file))
-
-  -- accepted if every rule holds; refused with a number at a place if those before it hold and this one is broken there
-  pub read-decides : DecidesAll (readVerdict file s) (readRules file s)
-  read-decides = subst (λ v. DecidesAll v (readRules file s)) (sym chain) (decides-append _ _ (headRules file s) (laterRules file) head-decides later-decides)
-
-  head-rules : Holds (headRules file s) ↔ HeadFits file s
-  unfolding headRules Holds
-  head-rules = (
-    λ h.
-        record {
-          whole = h .1 .1 .1 .1 .1 .1 .0;
-          sound = h .1 .0;
-          mark = h .1 .1 .0;
-          spare = h .1 .1 .1 .0;
-          some = h .1 .1 .1 .1 .0 .0;
-          few = h .1 .1 .1 .1 .0 .1;
-          nodes-room = h .1 .1 .1 .1 .1 .0 .0;
-          nodes-few = h .1 .1 .1 .1 .1 .0 .1;
-          room = h .1 .1 .1 .1 .1 .1 .1 .0;
-        },
-    λ f. (
-      (omega (arith, f .whole), (omega (arith, f .whole, f .few, f .nodes-few), omega (arith, f .whole))),
-      (f .sound, (f .mark, (f .spare, ((f .some, f .few), ((f .nodes-room, f .nodes-few), (f .whole, (f .room, tt))))))),
-    ),
-  )
-
-  pub head-accepts : (headVerdict file s ≡ Pass) ↔ HeadFits file s
-  head-accepts = (λ e. head-rules .0 (head-decides .passes .0 e), λ f. head-decides .passes .1 (head-rules .1 f))
-
-  pub head-measured : HeadFits file s → Measured file
-  head-measured f = record { whole = f .whole; some = f .some; few = f .few; nodes-few = f .nodes-few }
-
-  pub head-room : HeadFits file s → Room (fileCells file) (fileNodes file) s
-  head-room f = f .room
-
-  fits : (b : ℕ) → (checkBlock file (fieldUsed n m) b ≡ Pass) ↔ (SoundBlock (blockOf file b) b × SpareZero file (fieldUsed n m b) b)
-  fits b = block-fits file (fieldUsed n m) b (used-small n m b)
+  -- the later blocks are those of the cells, then those of the parents
+  pub later-tables : laterVerdict file ≡ both (checkTable cellTable file 2 n) (checkTable listTable file (2 + cellBlocks n) m)
+  unfolding laterVerdict checkTable
+  later-tables =
+      let e : k - 1 ≡ cellBlocks n + tableBlocks listTable m = omega arith in
+      ap (eachFrom (checkBlock file (fieldUsed n m)) 2) e
+      ∙ each-append (checkBlock file (fieldUsed n m)) 2 (cellBlocks n) (tableBlocks listTable m)
+      ∙ ap₂ both
+      (each-ext _ _ 2 (cellBlocks n) (λ b l h. used-same file (fieldUsed n m) (λ b. tableUsed cellTable n (b - 2)) b (used-cells n m b l h)))
+      (each-ext _ _ (2 + cellBlocks n) (tableBlocks listTable m) (λ b l h. used-same file (fieldUsed n m) (λ b. tableUsed listTable m (b - (2 + cellBlocks n))) b (used-parents n m b l)))
 
   later-accepts : (laterVerdict file ≡ Pass) ↔ ((b : ℕ) → 2 ≤ b → b ≤ k → SoundBlock (blockOf file b) b × SpareZero file (fieldUsed n m b) b)
   unfolding laterVerdict
-  later-accepts =
-      let t = each-passes (checkBlock file (fieldUsed n m)) 2 (k - 1) in
-      (λ e b l h. fits b .0 (t .0 e b l (omega arith)), λ f. t .1 (λ b l h. fits b .1 (f b l (omega arith))))
+  later-accepts = later-fits file (fieldUsed n m) (used-small n m) k
 
-  pub read-accepts : (readVerdict file s ≡ Pass) ↔ ReadFits file s
-  read-accepts = (
-    λ e.
-        let p = sym chain ∙ e in
-        let l = later-accepts .0 (both-second (headVerdict file s) _ p) in
-        record { head = head-accepts .0 (both-first _ _ p); sound = λ b i j. l b i j .0; spare = λ b i j. l b i j .1 },
-    λ f. chain ∙ sym (on (head-accepts .1 (f .head)) (sym (later-accepts .1 (λ b i j. (f .sound b i j, f .spare b i j))))),
-  )
+  module _ (s : Lists) where
+    pub head-decides : DecidesAll (headVerdict file s) (headRules file s)
+    unfolding headVerdict headRules
+    head-decides =
+        decides-then _ _ _ _ (length-decides maxFieldFile (length file))
+        (decides-then _ _ _ _ (sound-decides file 1)
+        (decides-then _ _ _ _ (mark-decides file)
+        (decides-then _ _ _ _ (spare-decides file 4 1 (omega arith))
+        (decides-then _ _ _ _ (count-decides n)
+        (decides-then _ _ _ _ (nodes-decides n m)
+        (decides-then _ _ _ _ (blocks-decides (length file) k)
+        (decides-then _ _ _ _ (room-decides n m s) decides-none)))))))
 
-  pub read-refuses : (number place : ℕ) → (readVerdict file s ≡ Fail number place) ↔ Broken (readRules file s) number place
-  read-refuses = read-decides .fails
+    chain : readVerdict file s ≡ both (headVerdict file s) (laterVerdict file)
+    unfolding readVerdict
+    chain = ap (both (headVerdict file s)) (both-pass (laterVerdict file))
+
+    -- accepted if every rule holds; refused with a number at a place if those before it hold and this one is broken there
+    pub read-decides : DecidesAll (readVerdict file s) (readRules file s)
+    read-decides = subst (λ v. DecidesAll v (readRules file s)) (sym chain) (decides-append _ _ (headRules file s) (laterRules file) head-decides later-decides)
+
+    head-rules : Holds (headRules file s) ↔ HeadFits file s
+    unfolding headRules Holds
+    head-rules = (
+      λ h.
+          record {
+            whole = h .1 .1 .1 .1 .1 .1 .0;
+            sound = h .1 .0;
+            mark = h .1 .1 .0;
+            spare = h .1 .1 .1 .0;
+            some = h .1 .1 .1 .1 .0 .0;
+            few = h .1 .1 .1 .1 .0 .1;
+            nodes-room = h .1 .1 .1 .1 .1 .0 .0;
+            nodes-few = h .1 .1 .1 .1 .1 .0 .1;
+            room = h .1 .1 .1 .1 .1 .1 .1 .0;
+          },
+      λ f. (
+        (omega (arith, f .whole), (omega (arith, f .whole, f .few, f .nodes-few), omega (arith, f .whole))),
+        (f .sound, (f .mark, (f .spare, ((f .some, f .few), ((f .nodes-room, f .nodes-few), (f .whole, (f .room, tt))))))),
+      ),
+    )
+
+    pub head-accepts : (headVerdict file s ≡ Pass) ↔ HeadFits file s
+    head-accepts = (λ e. head-rules .0 (head-decides .passes .0 e), λ f. head-decides .passes .1 (head-rules .1 f))
+
+    pub head-measured : HeadFits file s → Measured file
+    head-measured f = record { whole = f .whole; some = f .some; few = f .few; nodes-few = f .nodes-few }
+
+    pub head-room : HeadFits file s → Room (fileCells file) (fileNodes file) s
+    head-room f = f .room
+
+    pub read-accepts : (readVerdict file s ≡ Pass) ↔ ReadFits file s
+    read-accepts = (
+      λ e.
+          let p = sym chain ∙ e in
+          let l = later-accepts .0 (both-second (headVerdict file s) _ p) in
+          record { head = head-accepts .0 (both-first _ _ p); sound = λ b i j. l b i j .0; spare = λ b i j. l b i j .1 },
+      λ f. chain ∙ sym (on (head-accepts .1 (f .head)) (sym (later-accepts .1 (λ b i j. (f .sound b i j, f .spare b i j))))),
+    )
+
+    pub read-refuses : (number place : ℕ) → (readVerdict file s ≡ Fail number place) ↔ Broken (readRules file s) number place
+    read-refuses = read-decides .fails
 
 -- ---- the numbers
 
--- rules of places in turn refuse with numbers that the rules of each place refuse with
-each-number : (rules : ℕ → List Rule) (ns : List ℕ) (n : ℕ) → ((i : ℕ) → OneOf (numbersOf (rules i)) n → OneOf ns n) → (i k : ℕ) → OneOf (numbersOf (rulesFrom rules i k)) n → OneOf ns n
-unfolding rulesFrom OneOf
-each-number rules ns n h i zero o = absurd o
-each-number rules ns n h i (suc k) o =
-    let p = subst (λ l. OneOf l n) (numbers-append (rules i) (rulesFrom rules (suc i) k)) o in
-    ⊎-elim (h i) (each-number rules ns n h (suc i) k) (one-append (numbersOf (rules i)) (numbersOf (rulesFrom rules (suc i) k)) n .0 p)
-
-later-number : (n : ℕ) → OneOf (15 ∷ 16 ∷ []) n → OneOf (14 ∷ 15 ∷ 16 ∷ 1 ∷ 2 ∷ 3 ∷ []) n
-unfolding OneOf
-later-number n o = ⊎-elim (λ e. inr (inl e)) (λ p. ⊎-elim (λ e. inr (inr (inl e))) absurd p) o
-
 pub read-numbers : (file : List ℕ) (s : Lists) → RefuseWith (readRules file s) (14 ∷ 15 ∷ 16 ∷ 1 ∷ 2 ∷ 3 ∷ [])
 unfolding headRules laterRules
-read-numbers file s n =
-    let h = refuse-with (headRules file s) (14 ∷ 15 ∷ 16 ∷ 1 ∷ 2 ∷ 3 ∷ []) refl refl n in
-    let a = one-append (numbersOf (headRules file s)) (numbersOf (laterRules file)) n in
-    let e = numbers-append (headRules file s) (laterRules file) in
-    let used = fieldUsed (fileCells file) (fileNodes file) in (
-      λ o. ⊎-elim (h .0) (each-number (blockRules file used) _ n (λ b. later-number n) 2 _) (a .0 (subst (λ l. OneOf l n) e o)),
-      λ o. subst (λ l. OneOf l n) (sym e) (a .1 (inl (h .1 o))),
-    )
+read-numbers file s =
+    let used = fieldUsed (fileCells file) (fileNodes file) in
+    refuse-each (headRules file s) (blockRules file used) 2 _ _ (refuse-with (headRules file s) (14 ∷ 15 ∷ 16 ∷ 1 ∷ 2 ∷ 3 ∷ []) refl refl) (λ b. refl)
 
 -- ---- the answer
 

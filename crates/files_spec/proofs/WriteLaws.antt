@@ -1,8 +1,8 @@
--- What writing's verdict means, that an answer tells its verdict and its length and nothing else, and how the file grows block by block.
--- Assumes nothing.
-use mathlib.Core.Path.{_≡_, refl, _∙_, ap}
+-- What writing's verdict means, that an answer tells its verdict and its length and nothing else, and the file part by part. Assumes
+-- nothing.
+use mathlib.Core.Path.{_≡_, refl, sym, _∙_, ap}
 use mathlib.Core.Logic.{_↔_}
-use mathlib.Core.List.{List, [], _∷_}
+use mathlib.Core.List.{List, [], _∷_, _++_}
 use Prim.Native.Nat.{ℕ, _+_, _*_, _-_, _≤_}
 use native.Mathlib.Omega.{arith}
 use lib.ListN.{length, take}
@@ -17,11 +17,15 @@ use Rattle.numbers.proofs.SumLaws.{sumTo-ext}
 use Rattle.numbers.proofs.CheckLaws.{decides-for, decides-unless, decides-then, decides-none, count-decides}
 use Rattle.numbers.proofs.ChainLaws.{refuse-with}
 use Rattle.blocks.specs.Blocks.{blockBytes, fileBytes}
-use Rattle.blocks.proofs.FileLaws.{file-next}
+use Rattle.blocks.specs.Tables.{tableBytes, listTable}
+use Rattle.numbers.proofs.PartLaws.{written-on}
+use Rattle.blocks.proofs.BlockLaws.{length-blockBytes}
+use Rattle.blocks.proofs.TableLaws.{list-fits, table-file}
 use Rattle.qlt_spec.specs.declared.Repair.{Repair}
 use Rattle.files_spec.specs.declared.AnswerWritten.{AnswerWritten}
 use Rattle.files_spec.specs.declared.AnswerWritten.the-variants.{Bytes, Refused}
-use Rattle.files_spec.specs.WriteAnswer.{massBlocks, answerBlocks, answerHead, massBlock, answerWords, answerBytes, WriteCall, checkSpace, checkOutcome, checkMasses, writeVerdict, writeRules, WriteFits, writeTells, answerWrittenOf}
+use Rattle.files_spec.specs.AnswerFile.{massBlocks, answerBlocks, answerHead, massBlock, answerWords, answerBytes}
+use Rattle.files_spec.specs.WriteAnswer.{WriteCall, checkSpace, checkOutcome, checkMasses, writeVerdict, writeRules, WriteFits, writeTells, answerWrittenOf}
 
 -- ---- each check
 
@@ -77,7 +81,7 @@ written-of (Refused number place) = refl
 pub write-tells-injective : (a b : AnswerWritten) → writeTells a ≡ writeTells b → a ≡ b
 write-tells-injective = injective answerWrittenOf written-of
 
--- ---- the file, block by block
+-- ---- the file
 
 -- the sum of the first masses
 pub sum-part : (n : ℕ) (masses : List ℕ) → n ≤ length masses → sum (take n masses) ≡ sumTo ℕ-adds n (at masses)
@@ -87,25 +91,19 @@ sum-part n masses h =
 
 module _ (n : ℕ) (r : Repair) (masses : List ℕ) where
   -- the blocks after the first are those of the masses
-  pub mass-words : (k : ℕ) → answerWords n r masses (2 + k) ≡ massBlock n masses k
+  mass-words : (k : ℕ) → answerWords n r masses (2 + k) ≡ massBlock n masses k
   unfolding answerWords
   mass-words k =
       let e : 2 + k - 2 ≡ k = omega arith in
       rw (lt-leb (2 + k) 1 (omega arith), e)
 
-  -- blocks 1 to the last are the file
-  pub answer-end : (k : ℕ) → k ≡ massBlocks n → fileBytes (answerWords n r masses) (1 + k) ≡ answerBytes n r masses
-  unfolding answerBytes
-  answer-end k e = ap (λ j. fileBytes (answerWords n r masses) (1 + j)) e
+  -- block 1, then the masses
+  answer-parts : answerBytes n r masses ≡ blockBytes 1 (answerHead n r) ++ tableBytes listTable n (λ i j. at masses i) 2 (massBlocks n)
+  unfolding answerBytes fileBytes answerWords
+  answer-parts = table-file listTable list-fits n (λ i j. at masses i) (answerWords n r masses) 1 2 (massBlocks n) refl (λ k l. mass-words k)
 
--- block 1 starts the file, and each block of masses goes on with it
-module _ (d : List ℕ) (n : ℕ) (r : Repair) (masses : List ℕ) where
-  pub answer-start : written d 0 (blockBytes 1 (answerHead n r)) ≡ written d 0 (fileBytes (answerWords n r masses) 1)
-  unfolding fileBytes answerWords
-  answer-start = refl
-
-  pub answer-next : (k : ℕ) → written (written d 0 (fileBytes (answerWords n r masses) (1 + k))) (512 * (2 + k - 1)) (blockBytes (2 + k) (massBlock n masses k)) ≡ written d 0 (fileBytes (answerWords n r masses) (1 + (k + 1)))
-  answer-next k =
-      let w : ℕ → List ℕ = answerWords n r masses in
-      file-next d w (1 + k) (512 * (2 + k - 1)) (2 + k) (massBlock n masses k) (omega arith) (omega arith) (mass-words n r masses k)
-      ∙ ap (λ b. written d 0 (fileBytes w b)) (omega arith)
+  -- as the code writes them
+  pub answer-written : (d : List ℕ) → written (written d 0 (blockBytes 1 (answerHead n r))) (512 * (2 - 1)) (tableBytes listTable n (λ i j. at masses i) 2 (massBlocks n)) ≡ written d 0 (answerBytes n r masses)
+  answer-written d =
+      written-on d (blockBytes 1 (answerHead n r)) (tableBytes listTable n (λ i j. at masses i) 2 (massBlocks n)) 0 512 (omega arith) (omega (arith, length-blockBytes 1 (answerHead n r)))
+      ∙ ap (written d 0) (sym answer-parts)

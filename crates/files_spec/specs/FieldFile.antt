@@ -3,12 +3,13 @@ use mathlib.Core.Bool.{cond}
 use mathlib.Core.List.{List, [], _∷_}
 use Prim.Native.Nat.{ℕ, _+_, _-_}
 use lib.Dec.{leb}
-use Rattle.numbers.specs.Lists.{at, atℤ}
+use lib.ListN.{take}
+use Rattle.numbers.specs.Lists.{at, atℤ, written}
 use Rattle.blocks.specs.Words.{signedWord}
 use Rattle.blocks.specs.declared.tables.Table.{Table}
 use Rattle.blocks.specs.Blocks.{fileBytes}
 use Rattle.blocks.specs.Tables.{table, tableBlocks, tableUsed, tableWords, tableWord, listTable, listBlock}
-use Rattle.qlt_spec.specs.Field.{Lists, cells, nodes}
+use Rattle.qlt_spec.specs.Field.{Lists, lists, cells, nodes}
 
 -- ---- sizes: one block, then cells, 20 to a block, six words each, then parents, 125 to a block
 abbrev pub cellTable : Table
@@ -62,3 +63,22 @@ cellWord file k i = tableWord cellTable file 2 k i
 
 abbrev pub parentWord : List ℕ → ℕ → ℕ → ℕ
 parentWord file n i = tableWord listTable file (2 + cellBlocks n) 0 i
+
+-- ---- lists that may be longer than the field
+
+-- the first n entries of the lists of cells, and the first m parents
+abbrev pub fronts : ℕ → ℕ → Lists → Lists
+fronts n m s =
+    lists (take n (s .targets)) (take n (s .lows)) (take n (s .highs)) (take n (s .safeLows)) (take n (s .safeHighs)) (take n (s .weights)) (take m (s .parents))
+
+-- the lists s with the lists f in place of their front; later entries are untouched
+abbrev pub overFronts : Lists → Lists → Lists
+overFronts s f =
+    lists
+    (written (s .targets) 0 (f .targets))
+    (written (s .lows) 0 (f .lows))
+    (written (s .highs) 0 (f .highs))
+    (written (s .safeLows) 0 (f .safeLows))
+    (written (s .safeHighs) 0 (f .safeHighs))
+    (written (s .weights) 0 (f .weights))
+    (written (s .parents) 0 (f .parents))

@@ -1,4 +1,5 @@
 pub mod FieldFile
 pub mod ReadField
-pub mod WriteAnswer
 pub mod Stored
+pub mod AnswerFile
+pub mod WriteAnswer

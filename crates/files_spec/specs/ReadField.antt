@@ -1,18 +1,17 @@
 -- The operation Read a field file: its verdict, its answer, and the lists it leaves. Assumes nothing.
 use mathlib.Core.Path.{_≡_}
-use mathlib.Core.Bool.{_&&_}
 use mathlib.Core.List.{List, [], _∷_, _++_}
-use Prim.Native.Nat.{ℕ, _*_, _-_, _%_, _≤_, _<_}
-use lib.Dec.{leb, ltb, eqb}
+use Prim.Native.Nat.{ℕ, _*_, _-_, _≤_, _<_}
 use lib.ListN.{length}
 use Rattle.numbers.specs.declared.Checked.{Checked}
-use Rattle.numbers.specs.Lists.{listTo, written}
-use Rattle.numbers.specs.Checks.{Answered, accepted, refused, answered, after, unless, first, eachFrom, checkCount, checkLong, Rule, rule, ruleFor, rulesFrom}
+use Rattle.numbers.specs.Lists.{listTo}
+use Rattle.numbers.specs.Checks.{Answered, accepted, refused, answered, after, first, eachFrom, checkCount, checkLong, Rule, rule, ruleFor, rulesFrom}
 use Rattle.blocks.specs.Words.{wordSigned}
 use Rattle.blocks.specs.Blocks.{blockOf, payloadWord, checkSound, checkSpare, checkBlock, SoundBlock, SpareZero, blockRules}
+use Rattle.blocks.specs.Files.{checkFileLength, FileLength, checkBlockCount, checkMark}
 use Rattle.qlt_spec.specs.Field.{Lists, lists}
 use Rattle.qlt_spec.specs.Checks.{checkNodes}
-use Rattle.files_spec.specs.FieldFile.{fieldBlocks, fieldUsed, cellWord, parentWord}
+use Rattle.files_spec.specs.FieldFile.{fieldBlocks, fieldUsed, cellWord, parentWord, overFronts}
 use Rattle.files_spec.specs.declared.FieldRead.{FieldRead}
 use Rattle.files_spec.specs.declared.FieldRead.the-variants.{Read, Refused}
 
@@ -28,17 +27,9 @@ fileTotal file = payloadWord file 1 3
 
 -- ---- the checks; s are the lent lists
 
--- 14: the length is not 0, not over 18432, and a multiple of 512
-unfoldable pub checkFileLength : ℕ → Checked
-checkFileLength l = unless (ltb 0 l && (leb l 18432 && eqb (l % 512) 0)) 14 0
-
--- 16: the first payload word of block 1 is 512
-unfoldable pub checkMark : List ℕ → Checked
-checkMark file = unless (eqb (payloadWord file 1 0) 512) 16 1
-
--- 14: the length is that of n and m
-unfoldable pub checkSizes : ℕ → ℕ → ℕ → Checked
-checkSizes l n m = unless (eqb l (512 * fieldBlocks n m)) 14 0
+-- the largest file: 36 blocks
+abbrev pub maxFieldFile : ℕ
+maxFieldFile = 18432
 
 -- 3: each lent list has room for n or m
 abbrev pub roomChecks : (n m targets lows highs safeLows safeHighs weights parents : ℕ) → List Checked
@@ -68,12 +59,12 @@ abbrev pub sizeChecks : List ℕ → Lists → List Checked
 sizeChecks file s =
     checkCount (fileCells file)
     ∷ checkNodes (fileCells file) (fileNodes file)
-    ∷ checkSizes (length file) (fileCells file) (fileNodes file)
+    ∷ checkBlockCount (length file) (fieldBlocks (fileCells file) (fileNodes file))
     ∷ roomOf (fileCells file) (fileNodes file) s
     ∷ []
 
 abbrev pub headChecks : List ℕ → Lists → List Checked
-headChecks file s = checkFileLength (length file) ∷ (blockChecks file ++ sizeChecks file s)
+headChecks file s = checkFileLength maxFieldFile (length file) ∷ (blockChecks file ++ sizeChecks file s)
 
 unfoldable pub headVerdict : List ℕ → Lists → Checked
 headVerdict file s = first (headChecks file s)
@@ -102,7 +93,7 @@ pub record Room (n m : ℕ) (s : Lists) : Type 0 where
 
 unfoldable pub headRules : List ℕ → Lists → List Rule
 headRules file s =
-    rule 14 ((0 < length file) × ((length file ≤ 18432) × (length file % 512 ≡ 0)))
+    rule 14 (FileLength maxFieldFile (length file))
     ∷ ruleFor 15 1 (SoundBlock (blockOf file 1) 1)
     ∷ ruleFor 16 1 (payloadWord file 1 0 ≡ 512)
     ∷ ruleFor 16 1 (SpareZero file 4 1)
@@ -163,17 +154,21 @@ unfoldable pub fieldReadOf : Answered Sizes → FieldRead
 fieldReadOf (accepted z) = Read (z .cells) (z .nodes) (z .total)
 fieldReadOf (refused number place) = Refused number place
 
--- the lists with the file's n cells and m parents at their front; entries past n and m are untouched
-unfoldable pub listsRead : List ℕ → Lists → Lists
-listsRead file s =
+-- the field that a file holds
+unfoldable pub fileLists : List ℕ → Lists
+fileLists file =
     lists
-    (written (s .targets) 0 (listTo (fileCells file) (λ i. wordSigned (cellWord file 0 i))))
-    (written (s .lows) 0 (listTo (fileCells file) (cellWord file 1)))
-    (written (s .highs) 0 (listTo (fileCells file) (cellWord file 2)))
-    (written (s .safeLows) 0 (listTo (fileCells file) (cellWord file 3)))
-    (written (s .safeHighs) 0 (listTo (fileCells file) (cellWord file 4)))
-    (written (s .weights) 0 (listTo (fileCells file) (cellWord file 5)))
-    (written (s .parents) 0 (listTo (fileNodes file) (parentWord file (fileCells file))))
+    (listTo (fileCells file) (λ i. wordSigned (cellWord file 0 i)))
+    (listTo (fileCells file) (cellWord file 1))
+    (listTo (fileCells file) (cellWord file 2))
+    (listTo (fileCells file) (cellWord file 3))
+    (listTo (fileCells file) (cellWord file 4))
+    (listTo (fileCells file) (cellWord file 5))
+    (listTo (fileNodes file) (parentWord file (fileCells file)))
+
+-- the lent lists with it at their front: entries past n and m are untouched
+abbrev pub listsRead : List ℕ → Lists → Lists
+listsRead file s = overFronts s (fileLists file)
 
 -- the whole contract of the operation
 pub record ReadContract (file : List ℕ) (s : Lists) (answer : FieldRead) (t : Lists) : Type 0 where

@@ -5,11 +5,11 @@ use lib.IntN.{pos, negsuc}
 use lib.Signed.{_≤ℤ_}
 use lib.ListN.{length}
 use Rattle.numbers.specs.declared.Checked.the-variants.{Pass}
-use Rattle.numbers.specs.Lists.{atℤ, written}
+use Rattle.numbers.specs.Lists.{atℤ}
 use Rattle.blocks.specs.Words.{Words}
-use Rattle.qlt_spec.specs.Field.{Lists, lists, cells, nodes}
+use Rattle.qlt_spec.specs.Field.{Lists, cells, nodes}
 use Rattle.files_spec.specs.FieldFile.{fieldBytes}
-use Rattle.files_spec.specs.ReadField.{readVerdict, sizesOf, listsRead}
+use Rattle.files_spec.specs.ReadField.{readVerdict, sizesOf, fileLists}
 
 -- the lists f and the total M are those of a field that a file can hold
 pub record Storable (f : Lists) (M : ℕ) : Type 0 where
@@ -34,17 +34,8 @@ pub record Storable (f : Lists) (M : ℕ) : Type 0 where
   pub parent-words : Words (f .parents)
   pub total-word : M < 2 ^ 32
 
--- reading the file of f and M into the lists s is accepted, tells the sizes and M, and leaves f at the front of s
+-- reading the file of f and M into the lists s is accepted, tells the sizes and M, and the field that goes to the front of s is f
 pub record FieldBack (f : Lists) (M : ℕ) (s : Lists) : Type 0 where
   pub passes : readVerdict (fieldBytes f M) s ≡ Pass
   pub sizes : sizesOf (fieldBytes f M) ≡ record { cells = cells f; nodes = nodes f; total = M }
-  pub leaves :
-      listsRead (fieldBytes f M) s
-      ≡ lists
-      (written (s .targets) 0 (f .targets))
-      (written (s .lows) 0 (f .lows))
-      (written (s .highs) 0 (f .highs))
-      (written (s .safeLows) 0 (f .safeLows))
-      (written (s .safeHighs) 0 (f .safeHighs))
-      (written (s .weights) 0 (f .weights))
-      (written (s .parents) 0 (f .parents))
+  pub held : fileLists (fieldBytes f M) ≡ f

@@ -1,42 +1,18 @@
--- The operation Write an answer: the bytes of an answer file, the verdict, the answer, and the buffer it leaves. Assumes nothing.
+-- The operation Write an answer: its verdict, its answer, and the buffer it leaves. Assumes nothing.
 use mathlib.Core.Path.{_≡_}
-use mathlib.Core.Bool.{_&&_, cond}
+use mathlib.Core.Bool.{_&&_}
 use mathlib.Core.List.{List, [], _∷_}
-use Prim.Native.Nat.{ℕ, _+_, _*_, _-_, _/_, _%_, _^_, _≤_, _<_}
+use Prim.Native.Nat.{ℕ, _*_, _≤_, _<_}
 use lib.Dec.{leb, eqb}
 use lib.ListN.{length}
 use Rattle.numbers.specs.declared.Checked.{Checked}
 use Rattle.numbers.specs.Sums.{ℕ-adds, sumTo}
 use Rattle.numbers.specs.Lists.{at, written}
 use Rattle.numbers.specs.Checks.{Answered, accepted, refused, answered, after, unless, first, checkCount, Rule, rule, ruleFor}
-use Rattle.blocks.specs.Blocks.{fileBytes}
-use Rattle.blocks.specs.Tables.{tableBlocks, listTable, listBlock}
 use Rattle.qlt_spec.specs.declared.Repair.{Repair}
+use Rattle.files_spec.specs.AnswerFile.{answerBlocks, answerBytes}
 use Rattle.files_spec.specs.declared.AnswerWritten.{AnswerWritten}
 use Rattle.files_spec.specs.declared.AnswerWritten.the-variants.{Bytes, Refused}
-
--- ---- the bytes of an answer file
-
--- one block, then masses, 125 to a block
-abbrev pub massBlocks : ℕ → ℕ
-massBlocks n = tableBlocks listTable n
-
-abbrev pub answerBlocks : ℕ → ℕ
-answerBlocks n = 1 + massBlocks n
-
--- block 1; the k-th block of masses, from 0
-abbrev pub answerHead : ℕ → Repair → List ℕ
-answerHead n r = 512 ∷ n ∷ r .outcome ∷ r .total ∷ r .change % 2 ^ 32 ∷ r .change / 2 ^ 32 ∷ []
-
-abbrev pub massBlock : ℕ → List ℕ → ℕ → List ℕ
-massBlock n masses k = listBlock n masses k
-
-unfoldable pub answerWords : ℕ → Repair → List ℕ → ℕ → List ℕ
-answerWords n r masses b = cond (leb b 1) (answerHead n r) (massBlock n masses (b - 2))
-
--- the whole file, for the first n masses
-unfoldable pub answerBytes : ℕ → Repair → List ℕ → List ℕ
-answerBytes n r masses = fileBytes (answerWords n r masses) (answerBlocks n)
 
 -- ---- all that a call is given
 pub record WriteCall : Type 0 where

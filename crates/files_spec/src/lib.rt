@@ -9,6 +9,9 @@ pub const CELLS: Table = Table {
     records: 20,
 };
 
+// The largest field file, in bytes: 36 blocks.
+pub const MAX_FIELD_FILE: usize = 18432;
+
 // What reading a field file answers: the sizes and M, the lists being written; or the refusal.
 pub enum FieldRead {
     Read {

@@ -19,10 +19,11 @@ use Rattle.qlt_spec.specs.Field.{Outcome, attainable, below, above, field, outc
 use Rattle.qlt_spec.specs.Facts.{FieldFacts}
 use Rattle.qlt_spec.specs.Operation.{repair}
 use Rattle.qlt_spec.proofs.OperationLaws.{fits-facts}
-use Rattle.files_spec.specs.ReadField.{fileCells, fileTotal, HeadFits}
-use Rattle.files_spec.specs.WriteAnswer.{WriteCall, answerBlocks, writeCall, writeVerdict, writeRules, WriteFits}
+use Rattle.files_spec.specs.ReadField.{fileCells, fileTotal, HeadFits, fileLists}
+use Rattle.files_spec.specs.AnswerFile.{answerBlocks}
+use Rattle.files_spec.specs.WriteAnswer.{WriteCall, writeCall, writeVerdict, writeRules, WriteFits}
 use Rattle.files_spec.proofs.WriteLaws.{write-accepts, write-refuses}
-use Rattle.repair_file.specs.RepairFile.{largest, fileLists, fileCall, fileVerdict, fileRules, fileRepair, fileMasses}
+use Rattle.repair_file.specs.RepairFile.{largest, fileCall, fileVerdict, fileRules, fileRepair, fileMasses}
 use Rattle.repair_file.proofs.FileLaws.{length-cells, length-masses}
 use Rattle.repair_file.proofs.VerdictLaws.{file-decides, file-accepts, file-numbers}
 use Rattle.legzhuro_c.specs.Calls.{callVerdict, callRules, CallFits}

@@ -14,7 +14,8 @@ use Rattle.qlt_spec.specs.declared.Repair.{Repair}
 use Rattle.files_spec.specs.declared.AnswerWritten.{AnswerWritten}
 use Rattle.files_spec.specs.declared.AnswerWritten.the-variants.{Bytes, Refused}
 use Rattle.files_spec.specs.ReadField.{fileCells}
-use Rattle.files_spec.specs.WriteAnswer.{answerBlocks, answerBytes, writeCall, writeVerdict, writeTells, WriteContract}
+use Rattle.files_spec.specs.AnswerFile.{answerBlocks, answerBytes}
+use Rattle.files_spec.specs.WriteAnswer.{writeCall, writeVerdict, writeTells, WriteContract}
 use Rattle.repair_file.specs.RepairFile.{fileVerdict, fileRepair, fileMasses}
 use Rattle.repair_file.proofs.FileLaws.{FileDone}
 use Rattle.legzhuro_c.specs.Calls.{callVerdict, numberOf, writtenNumber, ReconstructReturns}

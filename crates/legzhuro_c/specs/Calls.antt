@@ -24,7 +24,8 @@ use Rattle.doubles_spec.specs.Export.{exportVerdict, exportDouble}
 use Rattle.files_spec.specs.declared.AnswerWritten.{AnswerWritten}
 use Rattle.files_spec.specs.declared.AnswerWritten.the-variants as answers
 use Rattle.files_spec.specs.ReadField.{fileCells}
-use Rattle.files_spec.specs.WriteAnswer.{answerBlocks, answerBytes, writeCall, writeVerdict}
+use Rattle.files_spec.specs.AnswerFile.{answerBlocks, answerBytes}
+use Rattle.files_spec.specs.WriteAnswer.{writeCall, writeVerdict}
 use Rattle.repair_file.specs.RepairFile.{fileVerdict, fileRules, FileFits, fileRepair, fileMasses}
 
 -- ---- the call on files: reading, then Reconstruct, then writing, each in its order

@@ -4,12 +4,12 @@ use mathlib.Core.Path.{_≡_, refl, sym, _∙_, ap, subst}
 use mathlib.Core.Logic.{_⊎_, inl, inr, ⊎-elim, _↔_}
 use mathlib.Core.Bool.{Bool, true, false, _&&_, _||_, or-true}
 use mathlib.Core.List.{List, [], _∷_, _++_}
-use Prim.Native.Nat.{ℕ}
+use Prim.Native.Nat.{ℕ, zero, suc}
 use lib.Dec.{eqb}
 use borrow.Author.Tests.{eqb-true, eq-eqb}
 use Rattle.numbers.specs.declared.Checked.{Checked}
 use Rattle.numbers.specs.declared.Checked.the-variants.{Pass, Fail}
-use Rattle.numbers.specs.Checks.{both, first, Rule, Broken, DecidesAll, numbersOf, OneOf, RefuseWith, Extends}
+use Rattle.numbers.specs.Checks.{both, first, Rule, Broken, DecidesAll, rulesFrom, numbersOf, OneOf, RefuseWith, Extends}
 use Rattle.numbers.proofs.TestLaws.{clash, and-first, and-second}
 use Rattle.numbers.proofs.CheckLaws.{on, both-first, both-second, no-pass}
 
@@ -108,3 +108,21 @@ refuse-append rs ss ms ns ks d e a b n = (
   λ h. are-of ks (ms ++ ns) a n (one-append ms ns n .1 (⊎-elim (λ x. inl (d n .0 x)) (λ y. inr (e n .0 y)) (one-append (numbersOf rs) (numbersOf ss) n .0 (subst (λ l. OneOf l n) (numbers-append rs ss) h)))),
   λ h. subst (λ l. OneOf l n) (sym (numbers-append rs ss)) (one-append (numbersOf rs) (numbersOf ss) n .1 (⊎-elim (λ x. inl (d n .1 x)) (λ y. inr (e n .1 y)) (one-append ms ns n .0 (are-of (ms ++ ns) ks b n h)))),
 )
+
+-- and of the rules of places in turn after others, if these have no number more
+each-number : (rules : ℕ → List Rule) (ns : List ℕ) (n : ℕ) → ((i : ℕ) → areOf ns (numbersOf (rules i)) ≡ true) → (i k : ℕ) → OneOf (numbersOf (rulesFrom rules i k)) n → OneOf ns n
+unfolding rulesFrom OneOf
+each-number rules ns n h i zero o = absurd o
+each-number rules ns n h i (suc k) o =
+    let p = subst (λ l. OneOf l n) (numbers-append (rules i) (rulesFrom rules (suc i) k)) o in
+    ⊎-elim (are-of ns (numbersOf (rules i)) (h i) n) (each-number rules ns n h (suc i) k) (one-append (numbersOf (rules i)) (numbersOf (rulesFrom rules (suc i) k)) n .0 p)
+
+pub refuse-each :
+    (rs : List Rule) (rules : ℕ → List Rule) (i k : ℕ) (ns : List ℕ) → RefuseWith rs ns → ((j : ℕ) → areOf ns (numbersOf (rules j)) ≡ true)
+    → RefuseWith (rs ++ rulesFrom rules i k) ns
+refuse-each rs rules i k ns d h n =
+    let a = one-append (numbersOf rs) (numbersOf (rulesFrom rules i k)) n in
+    let e = numbers-append rs (rulesFrom rules i k) in (
+      λ o. ⊎-elim (d n .0) (each-number rules ns n h i k) (a .0 (subst (λ l. OneOf l n) e o)),
+      λ o. subst (λ l. OneOf l n) (sym e) (a .1 (inl (d n .1 o))),
+    )

@@ -1,5 +1,5 @@
 -- Laws of checks: how a proof goes along a chain, how a loop looks for the first place that fails, and what each verdict means. Assumes nothing.
-use mathlib.Core.Path.{_≡_, refl, sym, _∙_, ap, subst}
+use mathlib.Core.Path.{_≡_, refl, sym, _∙_, ap, ap₂, subst}
 use mathlib.Core.Logic.{_⊎_, inl, inr, ⊎-elim, _↔_}
 use mathlib.Core.Bool.{Bool, true, false, _&&_}
 use mathlib.Core.List.{List, [], _∷_, _++_}
@@ -222,12 +222,30 @@ decides-after (Fail a b) w rs ss d e =
 pub decides-append : (v w : Checked) (rs ss : List Rule) → DecidesAll v rs → DecidesAll w ss → DecidesAll (both v w) (rs ++ ss)
 decides-append v w rs ss d e = decides-after v w rs ss d (λ p. e)
 
+-- checks that agree at each place
+pub each-ext : (f g : ℕ → Checked) (i k : ℕ) → ((j : ℕ) → i ≤ j → j < i + k → f j ≡ g j) → eachFrom f i k ≡ eachFrom g i k
+unfolding eachFrom
+each-ext f g i zero h = refl
+each-ext f g i (suc k) h = ap₂ both (h i (omega arith) (omega arith)) (each-ext f g (suc i) k (λ j a b. h j (omega arith) (omega arith)))
+
 -- the checks of several places in turn
 module _ (check : ℕ → Checked) where
   pub decides-each : (rules : ℕ → List Rule) → ((i : ℕ) → DecidesAll (check i) (rules i)) → (i k : ℕ) → DecidesAll (eachFrom check i k) (rulesFrom rules i k)
   unfolding eachFrom rulesFrom
   decides-each rules d i zero = decides-none
   decides-each rules d i (suc k) = decides-append (check i) (eachFrom check (suc i) k) (rules i) (rulesFrom rules (suc i) k) (d i) (decides-each rules d (suc i) k)
+
+  -- one run of places after another
+  pub each-append : (i k l : ℕ) → eachFrom check i (k + l) ≡ both (eachFrom check i k) (eachFrom check (i + k) l)
+  unfolding eachFrom
+  each-append i zero l =
+      let e : i + 0 ≡ i = omega arith in
+      let z : 0 + l ≡ l = omega arith in
+      rw (e, z)
+  each-append i (suc k) l =
+      let e : i + suc k ≡ suc i + k = omega arith in
+      let z : suc k + l ≡ suc (k + l) = omega arith in
+      rw (e, z) (ap (both (check i)) (each-append (suc i) k l) ∙ sym (both-assoc (check i) (eachFrom check (suc i) k) (eachFrom check (suc i + k) l)))
 
   -- all pass exactly if each does
   pub each-passes : (i k : ℕ) → (eachFrom check i k ≡ Pass) ↔ ((j : ℕ) → i ≤ j → j < i + k → check j ≡ Pass)

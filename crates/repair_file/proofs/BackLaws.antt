@@ -1,5 +1,5 @@
 -- The field in the bytes of a field that a file can hold is that field, and the file's verdict is Reconstruct's. Assumes nothing.
-use mathlib.Core.Path.{_≡_, refl, sym, _∙_, ap}
+use mathlib.Core.Path.{_≡_, _∙_, ap}
 use Prim.Native.Nat.{ℕ, _*_}
 use native.Mathlib.Omega.{arith}
 use lib.IntN.{pos}
@@ -9,15 +9,13 @@ use Rattle.numbers.specs.Lists.{listTo}
 use Rattle.numbers.specs.Checks.{both}
 use Rattle.numbers.proofs.CheckLaws.{both-pass}
 use Rattle.numbers.proofs.ListLaws.{length-listTo}
-use Rattle.numbers.proofs.PartLaws.{front-written}
 use Rattle.qlt_spec.specs.Field.{Lists, cells, nodes, scratchPerNode}
 use Rattle.qlt_spec.specs.Operation.{reconstructCall, reconstructVerdict}
 use Rattle.files_spec.specs.FieldFile.{fieldBytes}
-use Rattle.files_spec.specs.ReadField.{Room, Sizes, fileCells, fileNodes, fileTotal}
+use Rattle.files_spec.specs.ReadField.{Room, Sizes, fileCells, fileNodes, fileTotal, fileLists}
 use Rattle.files_spec.specs.Stored.{Storable, FieldBack}
 use Rattle.files_spec.proofs.BackLaws.{field-back}
-use Rattle.repair_file.specs.RepairFile.{largest, fileLists, fileCall, fileVerdict}
-use Rattle.repair_file.proofs.FileLaws.{fronts-read}
+use Rattle.repair_file.specs.RepairFile.{largest, fileCall, fileVerdict}
 
 module _ (f : Lists) (M : ℕ) (g : Storable f M) where
   -- the largest lists have room for it
@@ -50,20 +48,7 @@ module _ (f : Lists) (M : ℕ) (g : Storable f M) where
   same-total = ap (λ (z : Sizes). z .total) (back .sizes)
 
   same-lists : fileLists (fieldBytes f M) ≡ f
-  same-lists =
-      sym (fronts-read (fieldBytes f M) largest)
-      ∙ rw (
-        back .leaves,
-        same-cells,
-        same-nodes,
-        front-written (largest .targets) (f .targets) (cells f) refl,
-        front-written (largest .lows) (f .lows) (cells f) (g .lows),
-        front-written (largest .highs) (f .highs) (cells f) (g .highs),
-        front-written (largest .safeLows) (f .safeLows) (cells f) (g .safeLows),
-        front-written (largest .safeHighs) (f .safeHighs) (cells f) (g .safeHighs),
-        front-written (largest .weights) (f .weights) (cells f) (g .weights),
-        front-written (largest .parents) (f .parents) (nodes f) refl,
-      )
+  same-lists = back .held
 
 pub stored-lists :
     (f : Lists) (M : ℕ) → Storable f M

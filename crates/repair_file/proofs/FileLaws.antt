@@ -24,11 +24,13 @@ use Rattle.qlt_spec.specs.Checks.{checkLists, checkShape}
 use Rattle.qlt_spec.specs.Operation.{reconstructCall, reconstructVerdict, repair, reconstructTells, cleared, ReconstructContract}
 use Rattle.files_spec.specs.declared.FieldRead.{FieldRead}
 use Rattle.files_spec.specs.declared.FieldRead.the-variants as read
-use Rattle.files_spec.specs.ReadField.{fileCells, fileNodes, fileTotal, headVerdict, readVerdict, ReadFits, listsRead, ReadContract}
+use Rattle.files_spec.specs.ReadField.{fileCells, fileNodes, fileTotal, headVerdict, readVerdict, ReadFits, listsRead, ReadContract, fileLists}
 use Rattle.files_spec.proofs.ReadLaws.{read-done, read-refused, read-accepts}
 use Rattle.repair_file.specs.declared.FileRepaired.{FileRepaired}
 use Rattle.repair_file.specs.declared.FileRepaired.the-variants.{Done, Refused}
-use Rattle.repair_file.specs.RepairFile.{largest, fileLists, fileCall, fileVerdict, fileRepair, fileMasses, FileRepair, repairedOf, fileTells, RepairsFile, fronts, frontCall, beside, RepairsFronts}
+use Rattle.files_spec.specs.FieldFile.{fronts}
+use Rattle.files_spec.specs.AnswerFile.{Repaired}
+use Rattle.repair_file.specs.RepairFile.{largest, fileCall, fileVerdict, fileRepair, fileMasses, repairedOf, fileTells, RepairsFile, frontCall, beside, RepairsFronts}
 
 -- ---- verdicts go by lengths
 
@@ -76,7 +78,7 @@ front {ℓ} : {X : Type ℓ} (l : List X) (n : ℕ) (f : ℕ → X) → take n (
 front l n f = front-written l (listTo n f) n (length-listTo n f)
 
 pub fronts-read : (file : List ℕ) (s : Lists) → fronts (fileCells file) (fileNodes file) (listsRead file s) ≡ fileLists file
-unfolding listsRead fileLists
+unfolding fileLists
 fronts-read file s =
     rw (front (s .targets), front (s .lows), front (s .highs), front (s .safeLows), front (s .safeHighs), front (s .weights), front (s .parents))
 
@@ -202,14 +204,14 @@ module _ {file : List ℕ} {s t : Lists} {masses masses′ : List ℕ} {scratch 
   unfolding fileTells fileVerdict
   file-done {n} {r} p =
       let e = answered-accepted (fileVerdict file) (record { cells = n; repair = r }) (repairedOf file) (p .answers) in
-      let c : n ≡ fileCells file = ap (λ (z : FileRepair). z .cells) (e .1) in
+      let c : n ≡ fileCells file = ap (λ (z : Repaired). z .cells) (e .1) in
       let v : readVerdict file largest ≡ Pass = both-first _ _ (e .0) in
       let f = read-accepts file largest .0 v .head in
       let l = fronts-read file s in
       record {
         accepts = e .0;
         cells = c;
-        repair = ap (λ (z : FileRepair). z .repair) (e .1);
+        repair = ap (λ (z : Repaired). z .repair) (e .1);
         some = omega (arith, c, f .some);
         few = omega (arith, c, f .few);
         masses = rw (p .writes, e .0, c, masses-are file) (front masses (fileCells file) _);

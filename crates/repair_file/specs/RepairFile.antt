@@ -11,9 +11,9 @@ use Rattle.qlt_spec.specs.declared.Repair.{Repair}
 use Rattle.qlt_spec.specs.Field.{Lists, lists, nodes, scratchPerNode, field}
 use Rattle.qlt_spec.specs.Masses.{treeMasses}
 use Rattle.qlt_spec.specs.Operation.{ReconstructCall, reconstructCall, reconstructVerdict, reconstructRules, ReconstructFits, repair, cleared}
-use Rattle.blocks.specs.Words.{wordSigned}
-use Rattle.files_spec.specs.FieldFile.{cellWord, parentWord}
-use Rattle.files_spec.specs.ReadField.{fileCells, fileNodes, fileTotal, readVerdict, readRules, ReadFits, listsRead}
+use Rattle.files_spec.specs.FieldFile.{fronts}
+use Rattle.files_spec.specs.ReadField.{fileCells, fileNodes, fileTotal, readVerdict, readRules, ReadFits, fileLists, listsRead}
+use Rattle.files_spec.specs.AnswerFile.{Repaired}
 use Rattle.repair_file.specs.declared.FileRepaired.{FileRepaired}
 use Rattle.repair_file.specs.declared.FileRepaired.the-variants.{Done, Refused}
 
@@ -21,18 +21,6 @@ use Rattle.repair_file.specs.declared.FileRepaired.the-variants.{Done, R
 abbrev pub largest : Lists
 largest =
     lists (listTo 512 (λ i. pos 0)) (listTo 512 (λ i. 0)) (listTo 512 (λ i. 0)) (listTo 512 (λ i. 0)) (listTo 512 (λ i. 0)) (listTo 512 (λ i. 0)) (listTo 1024 (λ i. 0))
-
--- the field that a file holds
-unfoldable pub fileLists : List ℕ → Lists
-fileLists file =
-    lists
-    (listTo (fileCells file) (λ i. wordSigned (cellWord file 0 i)))
-    (listTo (fileCells file) (cellWord file 1))
-    (listTo (fileCells file) (cellWord file 2))
-    (listTo (fileCells file) (cellWord file 3))
-    (listTo (fileCells file) (cellWord file 4))
-    (listTo (fileCells file) (cellWord file 5))
-    (listTo (fileNodes file) (parentWord file (fileCells file)))
 
 -- Reconstruct's call for it: masses for each cell, and as much scratch as is asked for
 abbrev pub fileCall : List ℕ → ReconstructCall
@@ -61,14 +49,10 @@ unfoldable pub fileMasses : List ℕ → List ℕ
 fileMasses file = treeMasses (field (fileLists file)) (fileTotal file)
 
 -- the number of cells beside it
-pub record FileRepair : Type 0 where
-  pub cells : ℕ
-  pub repair : Repair
-
-abbrev pub repairedOf : List ℕ → FileRepair
+abbrev pub repairedOf : List ℕ → Repaired
 repairedOf file = record { cells = fileCells file; repair = fileRepair file }
 
-unfoldable pub fileTells : FileRepaired → Answered FileRepair
+unfoldable pub fileTells : FileRepaired → Answered Repaired
 fileTells (Done n r) = accepted (record { cells = n; repair = r })
 fileTells (Refused number place) = refused number place
 
@@ -81,16 +65,11 @@ pub record RepairsFile (file : List ℕ) (s : Lists) (masses : List ℕ) (scratc
 
 -- ---- Reconstruct on the front of longer lists
 
--- the first n entries of the lists of cells, and the first m parents
-abbrev pub fronts : ℕ → ℕ → Lists → Lists
-fronts n m s =
-    lists (take n (s .targets)) (take n (s .lows)) (take n (s .highs)) (take n (s .safeLows)) (take n (s .safeHighs)) (take n (s .weights)) (take m (s .parents))
-
 abbrev pub frontCall : ℕ → ℕ → ℕ → Lists → List ℕ → List ℤ → ReconstructCall
 frontCall n m M s masses scratch = reconstructCall (fronts n m s) M (take n masses) scratch
 
 -- what Reconstruct tells, with the number of cells beside it
-abbrev pub beside : ℕ → Answered Repair → Answered FileRepair
+abbrev pub beside : ℕ → Answered Repair → Answered Repaired
 beside n (accepted r) = accepted (record { cells = n; repair = r })
 beside n (refused number place) = refused number place
 

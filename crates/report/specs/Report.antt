@@ -3,12 +3,12 @@ use mathlib.Core.List.{List}
 use Prim.Native.Nat.{ℕ}
 use Rattle.numbers.specs.declared.Checked.{Checked}
 use Rattle.numbers.specs.declared.Checked.the-variants.{Pass, Fail}
-use Rattle.files_spec.specs.ReadField.{fileCells}
+use Rattle.files_spec.specs.ReadField.{fileCells, fileLists}
 use Rattle.text.specs.declared.Reported.{Reported}
 use Rattle.text.specs.Text.{refusalLine}
 use Rattle.text.specs.Reports.{Reports}
 use Rattle.listing.specs.Listing.{listing}
-use Rattle.repair_file.specs.RepairFile.{fileLists, fileVerdict, fileRepair, fileMasses}
+use Rattle.repair_file.specs.RepairFile.{fileVerdict, fileRepair, fileMasses}
 
 -- the listing, or the one line of a refusal of the file
 abbrev pub textBy : Checked → List ℕ → List ℕ

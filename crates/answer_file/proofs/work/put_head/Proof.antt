@@ -4,7 +4,7 @@ use native.Mathlib.Omega.{arith}
 use borrow.Rule.Slice.PartMut.{putMid}
 use Rattle.numbers.proofs.PartLaws.{length-part, put-back}
 use Rattle.blocks.proofs.BlockLaws.{length-blockBytes}
-use Rattle.files_spec.specs.WriteAnswer.{answerHead}
+use Rattle.files_spec.specs.AnswerFile.{answerHead}
 use borrow.Author.Needs.{needs}
 use Rattle.answer_file.proofs.work.put_head.Statement.{statement}
 use Rattle.answer_file.proofs.work.put_head.Tie as tie

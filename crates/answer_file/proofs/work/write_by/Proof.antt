@@ -5,7 +5,8 @@ use Prim.Native.Nat.{_*_}
 use Rattle.numbers.specs.declared.Checked.the-variants.{Pass}
 use Rattle.numbers.specs.Lists.{written}
 use Rattle.numbers.specs.Checks.{accepted, answered, after}
-use Rattle.files_spec.specs.WriteAnswer.{answerBlocks, answerBytes, WriteCall, writeCall, writeVerdict, WriteFits, writeTells}
+use Rattle.files_spec.specs.AnswerFile.{answerBlocks, answerBytes}
+use Rattle.files_spec.specs.WriteAnswer.{WriteCall, writeCall, writeVerdict, WriteFits, writeTells}
 use Rattle.files_spec.proofs.WriteLaws.{write-accepts}
 use borrow.Author.Needs.{needs}
 use Rattle.answer_file.proofs.work.write_by.Statement.{statement}

@@ -7,17 +7,18 @@ use Rattle.numbers.specs.declared.Checked.the-variants.{Pass}
 use Rattle.numbers.specs.Checks.{both}
 use Rattle.numbers.proofs.CheckLaws.{on, stop, first-append}
 use Rattle.qlt_spec.specs.Field.{Lists, lists}
-use Rattle.files_spec.specs.ReadField.{checkFileLength, blockChecks, sizeChecks, headVerdict}
-use Rattle.files_spec.proofs.ReadLaws.{length-decides}
+use Rattle.blocks.specs.Files.{checkFileLength}
+use Rattle.files_spec.specs.ReadField.{maxFieldFile, blockChecks, sizeChecks, headVerdict}
+use Rattle.blocks.proofs.FileLaws.{length-decides}
 use borrow.Author.Needs.{needs}
 use Rattle.field_file.proofs.verdict.head_verdict.Statement.{statement}
 use Rattle.field_file.proofs.verdict.head_verdict.Tie as tie
 
-passed : (c : tie.After-enum-told) → checkFileLength (length (c .before .before .before .before .before .before .before .before .before .before .args .file .now)) ≡ Pass
+passed : (c : tie.After-enum-told) → checkFileLength maxFieldFile (length (c .before .before .before .before .before .before .before .before .before .before .args .file .now)) ≡ Pass
 passed c = sym (c .before .before .check-file-length .ensures) ∙ c .enum-told .given .1
 
 one-block : (c : tie.After-enum-told) → 512 ≤ length (c .before .before .before .before .before .before .before .before .before .before .args .file .now)
-one-block c = let h = length-decides _ .passes .0 (passed c) in omega (arith, h .0, h .1 .1)
+one-block c = let h = length-decides maxFieldFile _ .passes .0 (passed c) in omega (arith, h .0, h .1 .1)
 
 check-file-length-requires : tie.Need-check-file-length-requires
 check-file-length-requires c κs = search needs

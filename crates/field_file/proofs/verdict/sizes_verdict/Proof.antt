@@ -6,7 +6,9 @@ use Rattle.numbers.specs.Checks.{both, checkCount}
 use Rattle.numbers.proofs.CheckLaws.{last}
 use Rattle.qlt_spec.specs.Field.{Lists, lists}
 use Rattle.qlt_spec.specs.Checks.{checkNodes}
-use Rattle.files_spec.specs.ReadField.{checkSizes, roomOf}
+use Rattle.blocks.specs.Files.{checkBlockCount}
+use Rattle.files_spec.specs.FieldFile.{fieldBlocks}
+use Rattle.files_spec.specs.ReadField.{roomOf}
 use borrow.Author.Needs.{needs}
 use Rattle.field_file.proofs.verdict.sizes_verdict.Statement.{statement}
 use Rattle.field_file.proofs.verdict.sizes_verdict.Tie as tie
@@ -32,8 +34,11 @@ check-count-requires c κs = search needs
 check-nodes-requires : tie.Need-check-nodes-requires
 check-nodes-requires c κs = search needs
 
-check-sizes-requires : tie.Need-check-sizes-requires
-check-sizes-requires c κs = omega arith
+field-blocks-requires : tie.Need-field-blocks-requires
+field-blocks-requires c κs = omega arith
+
+check-block-count-requires : tie.Need-check-block-count-requires
+check-block-count-requires c κs = omega (arith, c .field-blocks .ensures)
 
 then-requires : tie.Need-then-requires
 then-requires c κs = search needs
@@ -46,17 +51,17 @@ then-requires-3 c κs = search needs
 
 returns : tie.Need-returns
 returns c =
-    let a = c .before .before .before .before .before .before .before .before .before .before .before .before .before .before .before .before .args in
+    let a = c .before .before .before .before .before .before .before .before .before .before .before .before .before .before .before .before .before .args in
     let s : Lists = lists (a .targets .now) (a .lows .now) (a .highs .now) (a .safe-lows .now) (a .safe-highs .now) (a .weights .now) (a .parents .now) in
-    let n = c .before .before .before .before .before .before .before .before .payload-word .ensures in
-    let m = c .before .before .before .before .before .before .before .payload-word2 .ensures in
+    let n = c .before .before .before .before .before .before .before .before .before .payload-word .ensures in
+    let m = c .before .before .before .before .before .before .before .before .payload-word2 .ensures in
     c .then3 .ensures
-    ∙ ap₂ both (c .before .before .before .before .before .check-count .ensures ∙ ap checkCount n)
+    ∙ ap₂ both (c .before .before .before .before .before .before .check-count .ensures ∙ ap checkCount n)
     (c .before .then2 .ensures
-    ∙ ap₂ both (c .before .before .before .before .check-nodes .ensures ∙ ap₂ checkNodes n m)
+    ∙ ap₂ both (c .before .before .before .before .before .check-nodes .ensures ∙ ap₂ checkNodes n m)
     (c .before .before .then .ensures
-    ∙ ap₂ both (c .before .before .before .check-sizes .ensures ∙ ap₂ (checkSizes (length (a .file .now))) n m)
-    (last _ (c .before .before .before .before .before .before .check-room .ensures ∙ ap₂ (λ x y. roomOf x y s) n m))))
+    ∙ ap₂ both (c .before .before .before .check-block-count .ensures ∙ ap (checkBlockCount (length (a .file .now))) (c .before .before .before .before .field-blocks .ensures ∙ ap₂ fieldBlocks n m))
+    (last _ (c .before .before .before .before .before .before .before .check-room .ensures ∙ ap₂ (λ x y. roomOf x y s) n m))))
 
 pub sizes-verdict-spec : {M : Type 1} → statement M
 sizes-verdict-spec =
@@ -69,7 +74,8 @@ sizes-verdict-spec =
     check-room-requires
     check-count-requires
     check-nodes-requires
-    check-sizes-requires
+    field-blocks-requires
+    check-block-count-requires
     then-requires
     then-requires-2
     then-requires-3

@@ -1,12 +1,12 @@
--- `field_file::verdict::check_mark` meets its contract: the word that is read is tested.
+-- `blocks::files::check_mark` meets its contract: the word that is read is tested.
 use mathlib.Core.Path.{_∙_, ap}
 use native.Mathlib.Omega.{arith}
 use lib.Dec.{eqb}
 use Rattle.numbers.specs.Checks.{unless}
-use Rattle.files_spec.specs.ReadField.{checkMark}
+use Rattle.blocks.specs.Files.{checkMark}
 use borrow.Author.Needs.{needs}
-use Rattle.field_file.proofs.verdict.check_mark.Statement.{statement}
-use Rattle.field_file.proofs.verdict.check_mark.Tie as tie
+use Rattle.blocks.proofs.files.check_mark.Statement.{statement}
+use Rattle.blocks.proofs.files.check_mark.Tie as tie
 
 payload-word-requires : tie.Need-payload-word-requires
 payload-word-requires c κs = omega arith

@@ -1,12 +1,12 @@
--- `field_file::verdict::check_file_length` meets its contract: its test is the definition's.
+-- `blocks::files::check_file_length` meets its contract: its test is the definition's.
 use mathlib.Core.Path.{_∙_, ap}
 use mathlib.Core.Bool.{_&&_}
 use lib.Dec.{ltb}
 use Rattle.numbers.specs.Checks.{unless}
-use Rattle.files_spec.specs.ReadField.{checkFileLength}
+use Rattle.blocks.specs.Files.{checkFileLength}
 use borrow.Author.Needs.{needs}
-use Rattle.field_file.proofs.verdict.check_file_length.Statement.{statement}
-use Rattle.field_file.proofs.verdict.check_file_length.Tie as tie
+use Rattle.blocks.proofs.files.check_file_length.Statement.{statement}
+use Rattle.blocks.proofs.files.check_file_length.Tie as tie
 
 and-requires : tie.Need-and-requires
 and-requires c κs = search needs

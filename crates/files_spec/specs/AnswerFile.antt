@@ -1,0 +1,34 @@
+-- The bytes of an answer file ('Files' of 01), and where each number of it stands. Assumes nothing.
+use mathlib.Core.Bool.{cond}
+use mathlib.Core.List.{List, [], _∷_}
+use Prim.Native.Nat.{ℕ, _+_, _-_, _/_, _%_, _^_}
+use lib.Dec.{leb}
+use Rattle.blocks.specs.Blocks.{fileBytes}
+use Rattle.blocks.specs.Tables.{tableBlocks, listTable, listBlock}
+use Rattle.qlt_spec.specs.declared.Repair.{Repair}
+
+-- what is told of a repaired field: its number of cells, and the repair
+pub record Repaired : Type 0 where
+  pub cells : ℕ
+  pub repair : Repair
+
+-- one block, then masses, 125 to a block
+abbrev pub massBlocks : ℕ → ℕ
+massBlocks n = tableBlocks listTable n
+
+abbrev pub answerBlocks : ℕ → ℕ
+answerBlocks n = 1 + massBlocks n
+
+-- block 1; the k-th block of masses, from 0
+abbrev pub answerHead : ℕ → Repair → List ℕ
+answerHead n r = 512 ∷ n ∷ r .outcome ∷ r .total ∷ r .change % 2 ^ 32 ∷ r .change / 2 ^ 32 ∷ []
+
+abbrev pub massBlock : ℕ → List ℕ → ℕ → List ℕ
+massBlock n masses k = listBlock n masses k
+
+unfoldable pub answerWords : ℕ → Repair → List ℕ → ℕ → List ℕ
+answerWords n r masses b = cond (leb b 1) (answerHead n r) (massBlock n masses (b - 2))
+
+-- the whole file, for the first n masses
+unfoldable pub answerBytes : ℕ → Repair → List ℕ → List ℕ
+answerBytes n r masses = fileBytes (answerWords n r masses) (answerBlocks n)
