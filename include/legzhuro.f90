@@ -5,8 +5,9 @@
 ! leaves every list as it was, so the lists that a call writes are intent(inout).
 !
 ! Fortran has no unsigned integers: an unsigned value of 8, 32 or 64 bits is passed as the signed integer with the same bits.
-! A number from 0 to 2147483647 is itself, and so is every number that legzhuro_open and legzhuro_step write. Below 0 an
-! integer(c_int32_t) i stands for i + 2**32; a byte b of a file is iand(int(b), 255).
+! A number from 0 to 2147483647 is itself, and so is every number that legzhuro_open and legzhuro_step write, and that
+! legzhuro_read_answer reads in a file of legzhuro_reconstruct. Below 0 an integer(c_int32_t) i stands for i + 2**32; a byte b of a
+! file is iand(int(b), 255).
 module legzhuro
     use, intrinsic :: iso_c_binding, only: c_double, c_int8_t, c_int32_t, c_int64_t, c_size_t
     implicit none
@@ -20,8 +21,9 @@ module legzhuro
     integer, parameter, public :: legzhuro_max_field_file = 18432 ! bytes
     integer, parameter, public :: legzhuro_max_answer_file = 3072 ! bytes
 
-    public :: legzhuro_reconstruct, legzhuro_split, legzhuro_open, legzhuro_step, legzhuro_import, legzhuro_export
-    public :: legzhuro_number, legzhuro_place
+    public :: legzhuro_reconstruct, legzhuro_write_field, legzhuro_read_answer
+    public :: legzhuro_split, legzhuro_open, legzhuro_step, legzhuro_import, legzhuro_export
+    public :: legzhuro_number, legzhuro_place, legzhuro_field_file, legzhuro_answer_file
 
     interface
         ! Reads a field file, repairs the masses and writes the answer file. Returns 0 or the refusal's number.
@@ -32,6 +34,33 @@ module legzhuro
             integer(c_int8_t), intent(inout) :: answer(answer_len)
             integer(c_int32_t) :: returned
         end function legzhuro_reconstruct
+
+        ! Writes a field file of legzhuro_field_file(cells, nodes) bytes.
+        function legzhuro_write_field(cells, nodes, total, targets, targets_len, lows, lows_len, highs, highs_len, safe_lows, &
+                                      safe_lows_len, safe_highs, safe_highs_len, weights, weights_len, parents, parents_len, &
+                                      buffer, buffer_len) result(returned) bind(c, name='legzhuro_write_field')
+            import :: c_int8_t, c_int32_t, c_int64_t, c_size_t
+            integer(c_size_t), value :: cells, nodes
+            integer(c_int32_t), value :: total
+            integer(c_size_t), value :: targets_len, lows_len, highs_len, safe_lows_len, safe_highs_len, weights_len, parents_len
+            integer(c_size_t), value :: buffer_len
+            integer(c_int32_t), intent(in) :: targets(targets_len), lows(lows_len), highs(highs_len), safe_lows(safe_lows_len)
+            integer(c_int32_t), intent(in) :: safe_highs(safe_highs_len), weights(weights_len), parents(parents_len)
+            integer(c_int8_t), intent(inout) :: buffer(buffer_len)
+            integer(c_int64_t) :: returned
+        end function legzhuro_write_field
+
+        ! Reads an answer file of legzhuro_answer_file(cells) bytes: answer(1) is the number of cells, answer(2) the outcome,
+        ! answer(3) the total, answer(4) the change.
+        function legzhuro_read_answer(file, file_len, masses, masses_len, answer, answer_len) result(returned) &
+            bind(c, name='legzhuro_read_answer')
+            import :: c_int8_t, c_int32_t, c_int64_t, c_size_t
+            integer(c_size_t), value :: file_len, masses_len, answer_len
+            integer(c_int8_t), intent(in) :: file(file_len)
+            integer(c_int32_t), intent(inout) :: masses(masses_len)
+            integer(c_int64_t), intent(inout) :: answer(answer_len)
+            integer(c_int64_t) :: returned
+        end function legzhuro_read_answer
 
         ! Splits a total among items.
         function legzhuro_split(targets, targets_len, lows, lows_len, highs, highs_len, weights, weights_len, total, masses, &
@@ -102,5 +131,17 @@ contains
         integer(c_int64_t), intent(in) :: returned
         legzhuro_place = int(ibits(returned, 32, 32))
     end function legzhuro_place
+
+    ! The bytes of a field file of so many cells and nodes.
+    pure integer(c_size_t) function legzhuro_field_file(cells, nodes)
+        integer(c_size_t), intent(in) :: cells, nodes
+        legzhuro_field_file = 512*(1 + (cells + 19)/20 + (nodes + 124)/125)
+    end function legzhuro_field_file
+
+    ! The bytes of an answer file of so many cells.
+    pure integer(c_size_t) function legzhuro_answer_file(cells)
+        integer(c_size_t), intent(in) :: cells
+        legzhuro_answer_file = 512*(1 + (cells + 124)/125)
+    end function legzhuro_answer_file
 
 end module legzhuro

@@ -14,7 +14,8 @@
  *
  *    1  no items or cells, or more than 512
  *    2  fewer nodes than cells, or more than 1024
- *    3  a list of another length, scratch under 6 numbers for each node, or a list or buffer for the answer that is too short
+ *    3  a list of another length, scratch under 6 numbers for each node, or a list or buffer for the answer that is too short; in
+ *       legzhuro_write_field a list or buffer that is too short for the cells and nodes
  *    4  the parents are no tree (place: the smallest node that breaks a rule)
  *    5  crossed bounds; in legzhuro_split also a low below 0 (place: the first item or cell)
  *    6  the highs (in legzhuro_split) or safe highs add up to over 2147483647
@@ -23,11 +24,11 @@
  *    9  a scale above 30
  *   10  a double that is infinite or not a number (place: the field: target 0, low 1, high 2, safe low 3, safe high 4)
  *   11  a double out of range after rounding (place: the field); in legzhuro_export a mass above 2147483647
- *   12  the kept masses do not add up to the total given
+ *   12  the kept masses do not add up to the total given; in legzhuro_read_answer the file's masses do not add up to its total
  *   13  a total below 0 or above 2147483647
- *   14  a file of length 0, over 18432, no multiple of 512, or not that of its cells and nodes
- *   15  a block of the file with a wrong number or check word
- *   16  a file whose first payload word is not 512, or a spare word that is not 0
+ *   14  a file of length 0, no multiple of 512, or not that of its cells and nodes; a field file over 18432 bytes or an answer file over 3072
+ *   15  a block of the file with a wrong number or check word (place: the block, from 1)
+ *   16  a file whose first payload word is not 512, or a spare word that is not 0; an answer file with an outcome above 2 (place: the block)
  */
 #ifndef LEGZHURO_H
 #define LEGZHURO_H
@@ -51,12 +52,34 @@ extern "C" {
 #define LEGZHURO_MAX_FIELD_FILE 18432 /* bytes */
 #define LEGZHURO_MAX_ANSWER_FILE 3072 /* bytes */
 
+/* The bytes of a field file of so many cells and nodes, and of an answer file of so many cells. */
+#define LEGZHURO_FIELD_FILE(cells, nodes) (512 * (1 + ((cells) + 19) / 20 + ((nodes) + 124) / 125))
+#define LEGZHURO_ANSWER_FILE(cells) (512 * (1 + ((cells) + 124) / 125))
+
 /* Reads a field file's bytes, repairs the masses of its cells so that they add up to its total M, and writes the answer file to the front
  * of `answer`; bytes past the file are left alone. 3072 bytes are enough for every answer. Both formats are blocks of 512 bytes with a number
- * and check words; the scope paper has them ('Files').
+ * and check words; the scope paper has them ('Files'). legzhuro_write_field makes a field file, legzhuro_read_answer takes an answer apart.
  * Refusals: those of reading (14; 15, 16, 1, 2 of block 1; 14; 15, 16 of later blocks), then those of the repair (4 to 8), then 3 (`answer`
  * is too short for the file). */
 uint32_t legzhuro_reconstruct(const uint8_t *file, size_t file_len, uint8_t *answer, size_t answer_len);
+
+/* Writes the field file of a field and its total to the front of `buffer`: LEGZHURO_FIELD_FILE(cells, nodes) bytes; later ones are left
+ * alone. The lists are those of legzhuro_step, for 1 to 512 cells and as many nodes as cells or more, up to 1024; entries past `cells`, in
+ * `parents` past `nodes`, are not looked at. Nothing is asked of the values: what is wrong with them legzhuro_reconstruct refuses.
+ * Refusals: 1, 2, 3 (one of the first six lists is shorter than `cells`, `parents` is shorter than `nodes`, or `buffer` than the file). */
+uint64_t legzhuro_write_field(size_t cells, size_t nodes, uint32_t total, const int32_t *targets, size_t targets_len, const uint32_t *lows,
+                              size_t lows_len, const uint32_t *highs, size_t highs_len, const uint32_t *safe_lows, size_t safe_lows_len,
+                              const uint32_t *safe_highs, size_t safe_highs_len, const uint32_t *weights, size_t weights_len,
+                              const uint32_t *parents, size_t parents_len, uint8_t *buffer, size_t buffer_len);
+
+/* Reads an answer file's bytes: masses[c] is the mass of cell c, answer[0] the number of cells, answer[1] the outcome, answer[2] the total
+ * and answer[3] the change, as in legzhuro_step; later entries of both lists are left alone. `file_len` must be the file's own length,
+ * LEGZHURO_ANSWER_FILE of its cells; their number stands in bytes 8 and 9, low byte first, of a field file and of its answer. 512 masses are
+ * enough for every answer.
+ * Refusals: 14; 15, 16, 1 of block 1; 14; 3 (`masses` is shorter than the number of cells, or `answer` has fewer than four entries); 15, 16 of
+ * later blocks in order (place: the block); 12. */
+uint64_t legzhuro_read_answer(const uint8_t *file, size_t file_len, uint32_t *masses, size_t masses_len, uint64_t *answer,
+                              size_t answer_len);
 
 /* Splits `total` among items: item i would like targets[i], must get a mass between lows[i] and highs[i], and shares what is missing or too
  * much by weights[i] first, then by the room that is left. masses[i] is what it gets; the masses add up to the total. The number of items is

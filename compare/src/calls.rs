@@ -54,6 +54,35 @@ extern "C" {
         units_len: usize,
     ) -> u64;
     fn legzhuro_export(mass: u32, scale: u32, value: *mut f64, value_len: usize) -> u64;
+    fn legzhuro_write_field(
+        cells: usize,
+        nodes: usize,
+        total: u32,
+        targets: *const i32,
+        targets_len: usize,
+        lows: *const u32,
+        lows_len: usize,
+        highs: *const u32,
+        highs_len: usize,
+        safe_lows: *const u32,
+        safe_lows_len: usize,
+        safe_highs: *const u32,
+        safe_highs_len: usize,
+        weights: *const u32,
+        weights_len: usize,
+        parents: *const u32,
+        parents_len: usize,
+        buffer: *mut u8,
+        buffer_len: usize,
+    ) -> u64;
+    fn legzhuro_read_answer(
+        file: *const u8,
+        file_len: usize,
+        masses: *mut u32,
+        masses_len: usize,
+        answer: *mut u64,
+        answer_len: usize,
+    ) -> u64;
 }
 
 // Safety of every wrapper: the pointers and lengths are those of slices, so they are valid, aligned and not null, and exclusive borrows
@@ -121,4 +150,34 @@ pub fn import(doubles: [f64; 5], scale: u32, units: &mut [i64]) -> u64 {
 
 pub fn export(mass: u32, scale: u32, value: &mut [f64]) -> u64 {
     unsafe { legzhuro_export(mass, scale, value.as_mut_ptr(), value.len()) }
+}
+
+pub fn write_field(cells: usize, nodes: usize, total: u32, lists: &Lists, buffer: &mut [u8]) -> u64 {
+    unsafe {
+        legzhuro_write_field(
+            cells,
+            nodes,
+            total,
+            lists.targets.as_ptr(),
+            lists.targets.len(),
+            lists.lows.as_ptr(),
+            lists.lows.len(),
+            lists.highs.as_ptr(),
+            lists.highs.len(),
+            lists.safe_lows.as_ptr(),
+            lists.safe_lows.len(),
+            lists.safe_highs.as_ptr(),
+            lists.safe_highs.len(),
+            lists.weights.as_ptr(),
+            lists.weights.len(),
+            lists.parents.as_ptr(),
+            lists.parents.len(),
+            buffer.as_mut_ptr(),
+            buffer.len(),
+        )
+    }
+}
+
+pub fn read_answer(file: &[u8], masses: &mut [u32], answer: &mut [u64]) -> u64 {
+    unsafe { legzhuro_read_answer(file.as_ptr(), file.len(), masses.as_mut_ptr(), masses.len(), answer.as_mut_ptr(), answer.len()) }
 }

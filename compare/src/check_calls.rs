@@ -9,7 +9,7 @@ use crate::tally::Tally;
 use crate::tree::{Field, Workspace};
 
 /// How often inputs are broken: mostly not, and rarely in several ways at once, so that the order of the checks shows.
-fn breaks(random: &mut Random) -> u64 {
+pub fn breaks(random: &mut Random) -> u64 {
     match random.below(10) {
         0..=5 => 0,
         6..=8 => 1,
@@ -38,7 +38,7 @@ fn stretch<T: Copy>(random: &mut Random, list: &mut Vec<T>, filler: T) {
 }
 
 /// Any bits: what a lent list holds before the call.
-fn any_bits<T>(random: &mut Random, length: usize, make: impl Fn(u64) -> T) -> Vec<T> {
+pub fn any_bits<T>(random: &mut Random, length: usize, make: impl Fn(u64) -> T) -> Vec<T> {
     (0..length).map(|_| make(random.bits())).collect()
 }
 
@@ -262,7 +262,7 @@ fn break_kept(random: &mut Random, kept: &mut [u32]) {
 }
 
 pub fn break_step(random: &mut Random, call: &mut StepCall) {
-    let value = random::odd_number(random, &call.field);
+    let value = random::odd_number(random, call.field.targets.len(), call.field.parents.len());
     match random.below(18) {
         0..=4 => random::break_field(random, &mut call.field),
         5 => stretch(random, &mut call.field.targets, -1),

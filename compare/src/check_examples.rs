@@ -1,13 +1,14 @@
 //! The examples E1 to E10 of 01 and its places where programs stray, run through the second implementation and the library both.
 
 use crate::check_calls::{compare_import, compare_split, SplitCall};
-use crate::files::{parse_answer, reconstruct_file, write_field, FileWorkspace, MAX_ANSWER_FILE};
+use crate::check_files::repaired_by_files;
+use crate::files::{field_file, read_answer, reconstruct_file, FileWorkspace};
 use crate::from_c::returned;
 use crate::listing::listing;
 use crate::operations::{reconstruct, refuse_at};
+use crate::random;
 use crate::tally::Tally;
 use crate::tree::{Field, Workspace};
-use crate::{calls, random};
 
 fn expect<T: PartialEq + std::fmt::Debug>(tally: &mut Tally, name: &str, got: T, expected: T) {
     tally.input(got == expected, || format!("{name}: {got:?}, and 01 says {expected:?}"));
@@ -29,21 +30,15 @@ fn field(parents: &[u32], targets: &[i32], lows: &[u32], highs: &[u32], safe: (u
 
 type Answer = Result<(u32, Vec<u32>, u64), (u32, u32)>;
 
-/// Outcome, masses and change, or the refusal, of both sides. The call on a file has no place: it is looked at as far as it goes.
+/// Outcome, masses and change, or the refusal, of both sides; the library's by its files. The call on a file has no place: it is looked at
+/// as far as it goes.
 fn check_field(tally: &mut Tally, name: &str, field: &Field, total: u32, expected: Answer) {
     let (mut masses, mut scratch) = (vec![7; field.targets.len()], vec![7; 6 * field.parents.len()]);
     let result = reconstruct(&mut Workspace::default(), &field.lists(), total, &mut masses, &mut scratch);
     tally.outcome(&result.map(|repair| repair.outcome));
     let mine = result.map(|repair| (repair.outcome, masses, repair.change)).map_err(|refusal| (refusal.number, refusal.place));
     expect(tally, name, mine, expected.clone());
-    let file = write_field(field, total);
-    let mut buffer = [0; MAX_ANSWER_FILE];
-    let number = calls::reconstruct(&file, &mut buffer);
-    let blocks = 1 + field.targets.len().div_ceil(125);
-    let theirs = match number {
-        0 => parse_answer(&buffer[..blocks * 512]).map(|(repair, masses)| (repair.outcome, masses, repair.change)).ok_or(0),
-        _ => Err(number),
-    };
+    let theirs = repaired_by_files(field, total).map(|([_, outcome, _, change], masses)| (outcome as u32, masses, change));
     expect(tally, name, theirs, expected.map_err(|refusal| refusal.0));
 }
 
@@ -65,7 +60,7 @@ const E1: &str = "outcome 0 cells 4 total 16 change 4\n0 0 2\n1 7 -2\n2 4 0\n3 5
 fn fields(tally: &mut Tally) {
     let one = field(&[4, 4, 5, 5, 6, 6, 6], &[-2, 9, 4, 5], &[0; 4], &[8; 4], (0, 10));
     check_field(tally, "E1", &one, 16, Ok((0, vec![0, 7, 4, 5], 4)));
-    expect(tally, "E1 listing", listing(&mut FileWorkspace::default(), &write_field(&one, 16)), E1.to_string());
+    expect(tally, "E1 listing", listing(&mut FileWorkspace::default(), &field_file(&one, 16)), E1.to_string());
     // Sharing over all cells is what the flat tree does.
     let no_tree = field(&random::flat(4), &[-2, 9, 4, 5], &[0; 4], &[8; 4], (0, 10));
     check_field(tally, "stray: no tree", &no_tree, 16, Ok((0, vec![0, 8, 4, 4], 4)));
@@ -99,13 +94,14 @@ fn imports(tally: &mut Tally) {
     check_import(tally, "E10 high", [0.0, 0.0, -0.25, 0.0, 0.0], (11 | 2 << 32, [-9; 5]));
 }
 
-/// The answer file of E1, written and parsed again by the second implementation.
+/// The answer file of E1, written and read again by the second implementation.
 fn answer_file(tally: &mut Tally) {
     let one = field(&[4, 4, 5, 5, 6, 6, 6], &[-2, 9, 4, 5], &[0; 4], &[8; 4], (0, 10));
-    let mut buffer = [1; 1024];
-    let length = reconstruct_file(&mut FileWorkspace::default(), &write_field(&one, 16), &mut buffer);
+    let (mut buffer, mut masses) = ([1; 1024], [7; 5]);
+    let length = reconstruct_file(&mut FileWorkspace::default(), &field_file(&one, 16), &mut buffer);
     expect(tally, "E1 answer file", length.map(|(_, length)| length), Ok(1024));
-    expect(tally, "E1 answer parsed", parse_answer(&buffer).map(|(_, masses)| masses), Some(vec![0, 7, 4, 5]));
+    expect(tally, "E1 answer read", read_answer(&buffer, &mut masses).map(|header| header.cells), Ok(4));
+    expect(tally, "E1 masses read", masses, [0, 7, 4, 5, 7]);
     expect(tally, "a returned value", returned(refuse_at(4, 3)), 4 | 3 << 32);
 }
 

@@ -1,7 +1,7 @@
-//! Blocks, field files and answer files, after the section "Files" of 01, and the call on a field file's bytes. Written from 01 alone;
-//! shares no code with the library.
+//! Blocks, field files and answer files, after the section "Files" of 01 and ticket 1 of 02, and the call on a field file's bytes. Written
+//! from the papers alone; shares no code with the library.
 
-use crate::operations::{reconstruct, refuse, refuse_at, Refusal, MAX_CELLS, MAX_NODES};
+use crate::operations::{check_cells, check_counts, reconstruct, refuse, refuse_at, Refusal, MAX_CELLS, MAX_NODES};
 use crate::tree::{sum, Field, Lists, Repair, Workspace};
 
 pub const BLOCK: usize = 512;
@@ -94,6 +94,33 @@ fn list_position(first_block: usize, index: usize) -> (usize, usize) {
     (first_block + index / PAYLOAD, 1 + index % PAYLOAD)
 }
 
+fn put_words(block: &mut [u8], first: usize, words: &[u32]) {
+    for (index, &value) in words.iter().enumerate() {
+        set_word(block, first + index, value);
+    }
+}
+
+/// Writes a list with 125 entries to a block.
+fn put_list(file: &mut [u8], first_block: usize, list: &[u32]) {
+    for (index, &value) in list.iter().enumerate() {
+        let (number, place) = list_position(first_block, index);
+        set_word(block_mut(file, number), place, value);
+    }
+}
+
+/// Reads such a list.
+fn take_list(file: &[u8], first_block: usize, list: &mut [u32]) {
+    for (index, value) in list.iter_mut().enumerate() {
+        let (number, place) = list_position(first_block, index);
+        *value = word(block(file, number), place);
+    }
+}
+
+/// Payload words that block `number` of such a list uses.
+fn used_by_list(entries: usize, first_block: usize, number: usize) -> usize {
+    (entries - (number - first_block) * PAYLOAD).min(PAYLOAD)
+}
+
 fn number_blocks(file: &mut [u8]) {
     for (index, block) in file.chunks_mut(BLOCK).enumerate() {
         set_word(block, 0, index as u32 + 1);
@@ -101,90 +128,133 @@ fn number_blocks(file: &mut [u8]) {
     }
 }
 
-/// A field file for lists of any sense.
-pub fn write_field(field: &Field, total: u32) -> Vec<u8> {
-    let (cells, nodes) = (field.targets.len(), field.parents.len());
-    let mut file = vec![0; field_file_length(cells, nodes)];
-    for (index, value) in [MARK, cells as u32, nodes as u32, total].into_iter().enumerate() {
-        set_word(&mut file, 1 + index, value);
-    }
-    for cell in 0..cells {
-        let (number, first) = cell_position(cell);
-        let (low, high) = (field.lows[cell], field.highs[cell]);
-        let words = [field.targets[cell] as u32, low, high, field.safe_lows[cell], field.safe_highs[cell], field.weights[cell]];
-        for (index, value) in words.into_iter().enumerate() {
-            set_word(block_mut(&mut file, number), first + index, value);
-        }
-    }
-    for node in 0..nodes {
-        let (number, index) = list_position(2 + cell_blocks(cells), node);
-        set_word(block_mut(&mut file, number), index, field.parents[node]);
-    }
-    number_blocks(&mut file);
-    file
-}
-
 /// What block 1 of a field file says.
 #[derive(Clone, Copy, Debug, PartialEq)]
-pub struct Header {
+pub struct FieldHeader {
     pub cells: usize,
     pub nodes: usize,
     pub total: u32,
 }
 
-/// The checks of reading up to the file's length.
-fn check_header(file: &[u8]) -> Result<Header, Refusal> {
-    if file.is_empty() || file.len() > MAX_FIELD_FILE || file.len() % BLOCK != 0 {
+/// What block 1 of an answer file says.
+#[derive(Clone, Copy, Debug, PartialEq)]
+pub struct AnswerHeader {
+    pub cells: usize,
+    pub repair: Repair,
+}
+
+// ---- checks ----
+
+/// Refusal 14 for a length that no file has, then 15 and 16 of block 1, of whose payload the first `used` words are used.
+fn check_first_block(file: &[u8], most: usize, used: usize) -> Result<(), Refusal> {
+    if file.is_empty() || file.len() > most || file.len() % BLOCK != 0 {
         return refuse(14);
     }
     check_block(file, 1)?;
     if word(file, 1) != MARK {
         return refuse_at(16, 1);
     }
-    check_spare(file, 1, 4)?;
-    let (cells, nodes) = (word(file, 2) as usize, word(file, 3) as usize);
-    if cells == 0 || cells > MAX_CELLS {
-        return refuse(1);
-    }
-    if nodes < cells || nodes > MAX_NODES {
-        return refuse(2);
-    }
-    if file.len() != field_file_length(cells, nodes) {
+    check_spare(file, 1, used)
+}
+
+/// Refusal 14 for a length that is not that of the counts in block 1.
+fn check_file_length(file: &[u8], length: usize) -> Result<(), Refusal> {
+    if file.len() != length {
         return refuse(14);
     }
-    Ok(Header { cells, nodes, total: word(file, 4) })
+    Ok(())
+}
+
+/// Refusals 15 and 16 of the later blocks in order; `used` gives the payload words that a block uses.
+fn check_later_blocks(file: &[u8], used: impl Fn(usize) -> usize) -> Result<(), Refusal> {
+    (2..=file.len() / BLOCK).try_for_each(|number| {
+        check_block(file, number)?;
+        check_spare(file, number, used(number))
+    })
 }
 
 /// Refusal 3: lists too short for the cells and nodes.
-fn check_room(field: &Field, header: &Header) -> Result<(), Refusal> {
-    let words = [&field.lows, &field.highs, &field.safe_lows, &field.safe_highs, &field.weights];
-    let short = field.targets.len() < header.cells || words.iter().any(|list| list.len() < header.cells);
-    if short || field.parents.len() < header.nodes {
+fn check_room(lists: &Lists, cells: usize, nodes: usize) -> Result<(), Refusal> {
+    let words = [lists.lows, lists.highs, lists.safe_lows, lists.safe_highs, lists.weights];
+    let short = lists.targets.len() < cells || words.iter().any(|list| list.len() < cells);
+    if short || lists.parents.len() < nodes {
         return refuse(3);
     }
     Ok(())
 }
 
-/// The checks of the later blocks, in order.
-fn check_later_blocks(file: &[u8], header: &Header) -> Result<(), Refusal> {
-    let first_parents = 2 + cell_blocks(header.cells);
-    for number in 2..=file.len() / BLOCK {
-        let used = if number < first_parents {
-            WORDS_OF_CELL * (header.cells - (number - 2) * CELLS_IN_BLOCK).min(CELLS_IN_BLOCK)
-        } else {
-            (header.nodes - (number - first_parents) * PAYLOAD).min(PAYLOAD)
-        };
-        check_block(file, number)?;
-        check_spare(file, number, used)?;
+/// Refusal 16 for an outcome.
+fn check_outcome(outcome: u32) -> Result<(), Refusal> {
+    if outcome > 2 {
+        return refuse_at(16, 1);
     }
     Ok(())
 }
 
+/// Refusal 12: masses that do not add up to the total.
+fn check_masses(masses: &[u32], total: u32) -> Result<(), Refusal> {
+    if sum(masses) != u64::from(total) {
+        return refuse(12);
+    }
+    Ok(())
+}
+
+// ---- field files ----
+
+/// Writes the field file of the first `cells` cells and `nodes` nodes to the front of the buffer; returns its length.
+pub fn write_field(cells: usize, nodes: usize, total: u32, lists: &Lists, buffer: &mut [u8]) -> Result<usize, Refusal> {
+    check_counts(cells, nodes)?;
+    check_room(lists, cells, nodes)?;
+    let length = field_file_length(cells, nodes);
+    if buffer.len() < length {
+        return refuse(3);
+    }
+    let file = &mut buffer[..length];
+    file.fill(0);
+    put_words(file, 1, &[MARK, cells as u32, nodes as u32, total]);
+    let Lists { targets, lows, highs, safe_lows, safe_highs, weights, parents } = lists.first(cells, nodes);
+    for cell in 0..cells {
+        let (number, first) = cell_position(cell);
+        let words = [targets[cell] as u32, lows[cell], highs[cell], safe_lows[cell], safe_highs[cell], weights[cell]];
+        put_words(block_mut(file, number), first, &words);
+    }
+    put_list(file, 2 + cell_blocks(cells), parents);
+    number_blocks(file);
+    Ok(length)
+}
+
+/// The file of a whole field, of any sense, whose numbers of cells and nodes pass.
+pub fn field_file(field: &Field, total: u32) -> Vec<u8> {
+    let (cells, nodes) = (field.targets.len(), field.parents.len());
+    let mut file = vec![0; field_file_length(cells, nodes)];
+    write_field(cells, nodes, total, &field.lists(), &mut file).expect("numbers of cells and nodes that pass");
+    file
+}
+
+/// The checks of reading up to the file's length.
+fn check_field_header(file: &[u8]) -> Result<FieldHeader, Refusal> {
+    check_first_block(file, MAX_FIELD_FILE, 4)?;
+    let header = FieldHeader { cells: word(file, 2) as usize, nodes: word(file, 3) as usize, total: word(file, 4) };
+    check_counts(header.cells, header.nodes)?;
+    check_file_length(file, field_file_length(header.cells, header.nodes))?;
+    Ok(header)
+}
+
+/// Payload words that a later block of a field file uses.
+fn used_by_field(header: &FieldHeader, number: usize) -> usize {
+    let first_parents = 2 + cell_blocks(header.cells);
+    if number < first_parents {
+        WORDS_OF_CELL * (header.cells - (number - 2) * CELLS_IN_BLOCK).min(CELLS_IN_BLOCK)
+    } else {
+        used_by_list(header.nodes, first_parents, number)
+    }
+}
+
 /// Reads a field file into the lists lent, of any lengths; entries past its cells and nodes are left alone.
-pub fn read_field(file: &[u8], field: &mut Field) -> Result<Header, Refusal> {
-    let header = check_header(file)?;
-    check_room(field, &header)?;
-    check_later_blocks(file, &header)?;
+pub fn read_field(file: &[u8], field: &mut Field) -> Result<FieldHeader, Refusal> {
+    let header = check_field_header(file)?;
+    check_room(&field.lists(), header.cells, header.nodes)?;
+    check_later_blocks(file, |number| used_by_field(&header, number))?;
     for cell in 0..header.cells {
         let (number, first) = cell_position(cell);
         let block = block(file, number);
@@ -195,61 +265,57 @@ pub fn read_field(file: &[u8], field: &mut Field) -> Result<Header, Refusal> {
         field.safe_highs[cell] = word(block, first + 4);
         field.weights[cell] = word(block, first + 5);
     }
-    for node in 0..header.nodes {
-        let (number, index) = list_position(2 + cell_blocks(header.cells), node);
-        field.parents[node] = word(block(file, number), index);
-    }
+    take_list(file, 2 + cell_blocks(header.cells), &mut field.parents[..header.nodes]);
     Ok(header)
 }
 
+// ---- answer files ----
+
 /// Writes an answer file to the front of the buffer; returns its length.
 pub fn write_answer(cells: usize, repair: Repair, masses: &[u32], buffer: &mut [u8]) -> Result<usize, Refusal> {
-    if cells == 0 || cells > MAX_CELLS {
-        return refuse(1);
-    }
+    check_cells(cells)?;
     let length = answer_file_length(cells);
     if buffer.len() < length || masses.len() < cells {
         return refuse(3);
     }
-    if repair.outcome > 2 {
-        return refuse_at(16, 1);
-    }
-    if sum(&masses[..cells]) != u64::from(repair.total) {
-        return refuse(12);
-    }
+    check_outcome(repair.outcome)?;
+    let masses = &masses[..cells];
+    check_masses(masses, repair.total)?;
     let file = &mut buffer[..length];
     file.fill(0);
     let change = repair.change;
-    let words = [MARK, cells as u32, repair.outcome, repair.total, change as u32, (change >> 32) as u32];
-    for (index, value) in words.into_iter().enumerate() {
-        set_word(file, 1 + index, value);
-    }
-    for (cell, &mass) in masses[..cells].iter().enumerate() {
-        let (number, index) = list_position(2, cell);
-        set_word(block_mut(file, number), index, mass);
-    }
+    put_words(file, 1, &[MARK, cells as u32, repair.outcome, repair.total, change as u32, (change >> 32) as u32]);
+    put_list(file, 2, masses);
     number_blocks(file);
     Ok(length)
 }
 
-/// Takes an answer file apart, if it is one: the repair and the masses.
-pub fn parse_answer(file: &[u8]) -> Option<(Repair, Vec<u32>)> {
-    if file.is_empty() || file.len() % BLOCK != 0 {
-        return None;
-    }
-    let cells = word(file, 2) as usize;
-    let checked = (1..=file.len() / BLOCK).all(|number| check_block(file, number).is_ok());
-    if !checked || word(file, 1) != MARK || file.len() != answer_file_length(cells) || check_spare(file, 1, 6).is_err() {
-        return None;
-    }
+/// The checks of reading up to the file's length.
+pub fn check_answer_header(file: &[u8]) -> Result<AnswerHeader, Refusal> {
+    check_first_block(file, MAX_ANSWER_FILE, 6)?;
     let change = u64::from(word(file, 5)) | u64::from(word(file, 6)) << 32;
-    let repair = Repair { outcome: word(file, 3), total: word(file, 4), change };
-    let mass = |cell| {
-        let (number, index) = list_position(2, cell);
-        word(block(file, number), index)
-    };
-    Some((repair, (0..cells).map(mass).collect()))
+    let header = AnswerHeader { cells: word(file, 2) as usize, repair: Repair { outcome: word(file, 3), total: word(file, 4), change } };
+    check_outcome(header.repair.outcome)?;
+    check_cells(header.cells)?;
+    check_file_length(file, answer_file_length(header.cells))?;
+    Ok(header)
 }
+
+/// Reads an answer file into the list lent, of any length; entries past its cells are left alone.
+pub fn read_answer(file: &[u8], masses: &mut [u32]) -> Result<AnswerHeader, Refusal> {
+    let header = check_answer_header(file)?;
+    if masses.len() < header.cells {
+        return refuse(3);
+    }
+    check_later_blocks(file, |number| used_by_list(header.cells, 2, number))?;
+    let mut read = vec![0; header.cells];
+    take_list(file, 2, &mut read);
+    check_masses(&read, header.repair.total)?;
+    masses[..header.cells].copy_from_slice(&read);
+    Ok(header)
+}
+
+// ---- the call on a field file ----
 
 /// Working space of the call on a field file, used again from call to call. Its lists have room for every field.
 pub struct FileWorkspace {

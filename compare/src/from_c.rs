@@ -1,9 +1,10 @@
 //! The operations as `legzhuro.h` tells of its calls: what an operation gives goes to a lent list, a list too short for it counts under 3,
 //! and number and place come back in one value. Shares no code with the library.
 
+use crate::files::{check_answer_header, AnswerHeader};
 use crate::operations::{check_counts, refuse, Refusal};
 use crate::tree::{Lists, Workspace};
-use crate::{doubles, operations};
+use crate::{doubles, files, operations};
 
 /// The value returned: the number in the low 32 bits, the place in the high 32.
 pub fn returned(result: Result<(), Refusal>) -> u64 {
@@ -37,7 +38,7 @@ pub fn step(
     scratch: &mut [i64],
     answer: &mut [u64],
 ) -> Result<(), Refusal> {
-    check_counts(lists)?;
+    check_counts(lists.targets.len(), lists.parents.len())?;
     check_length(answer, 3)?;
     let repair = operations::step(workspace, total, kept, source, lists, scratch)?;
     answer[..3].copy_from_slice(&[u64::from(repair.outcome), u64::from(repair.total), repair.change]);
@@ -54,5 +55,25 @@ pub fn import(doubles: [f64; 5], scale: u32, units: &mut [i64]) -> Result<(), Re
 pub fn export(mass: u32, scale: u32, value: &mut [f64]) -> Result<(), Refusal> {
     check_length(value, 1)?;
     value[0] = doubles::export(mass, scale)?;
+    Ok(())
+}
+
+pub fn write_field(cells: usize, nodes: usize, total: u32, lists: &Lists, buffer: &mut [u8]) -> Result<(), Refusal> {
+    files::write_field(cells, nodes, total, lists, buffer)?;
+    Ok(())
+}
+
+/// What is told of an answer: cells, outcome, total and change.
+pub fn answer_values(header: AnswerHeader) -> [u64; 4] {
+    let repair = header.repair;
+    [header.cells as u64, u64::from(repair.outcome), u64::from(repair.total), repair.change]
+}
+
+/// The answer's length is checked with that of the masses, after block 1.
+pub fn read_answer(file: &[u8], masses: &mut [u32], answer: &mut [u64]) -> Result<(), Refusal> {
+    check_answer_header(file)?;
+    check_length(answer, 4)?;
+    let header = files::read_answer(file, masses)?;
+    answer[..4].copy_from_slice(&answer_values(header));
     Ok(())
 }

@@ -1,7 +1,7 @@
-//! A second implementation of the paper 01 (`split`, `tree`, `operations`, `doubles`, `files`, `listing`), written from the paper alone and
-//! sharing no code with the proved library, and, with the feature `library`, what compares the library with it: the calls from C
-//! (`calls`, and `from_c` for the second implementation's side), inputs (`random`), and the checks that the comparison program runs
-//! (`tally` and `check_...`).
+//! A second implementation of the paper 01 and of ticket 1 of 02 (`split`, `tree`, `operations`, `doubles`, `files`, `listing`), written
+//! from the papers alone and sharing no code with the proved library, and, with the feature `library`, what compares the library with it:
+//! the calls from C (`calls`, and `from_c` for the second implementation's side), inputs (`random`, `damage`), and the checks that the
+//! comparison program runs (`tally` and `check_...`).
 
 #[cfg(feature = "library")]
 pub mod calls;
@@ -15,6 +15,7 @@ pub mod check_files;
 pub mod check_published;
 #[cfg(feature = "library")]
 pub mod check_run;
+pub mod damage;
 pub mod doubles;
 pub mod files;
 pub mod from_c;

@@ -10,8 +10,8 @@ use std::path::Path;
 
 const SEED: u64 = 20190525;
 
-// The refusals that a call can give, after the section "Operations and what each turns down" of 01, in its order of checks. From C a list
-// that is too short for what a call gives counts under 3.
+// The refusals that a call can give, after the section "Operations and what each turns down" of 01 and ticket 1 of 02, in its order of
+// checks. From C a list that is too short for what a call gives counts under 3.
 const SPLIT: [usize; 6] = [1, 3, 5, 6, 7, 8];
 const OPEN: [usize; 3] = [3, 1, 13];
 const STEP: [usize; 10] = [1, 2, 3, 4, 5, 6, 7, 12, 13, 8];
@@ -22,6 +22,10 @@ const EXPORT: [usize; 3] = [3, 9, 11];
 const FILE: [usize; 11] = [14, 15, 16, 1, 2, 4, 5, 6, 7, 8, 3];
 // The program writes no answer file.
 const PROGRAM: [usize; 10] = [14, 15, 16, 1, 2, 4, 5, 6, 7, 8];
+const WRITE_FIELD: [usize; 3] = [1, 2, 3];
+const READ_ANSWER: [usize; 6] = [14, 15, 16, 1, 3, 12];
+// Whole fields, written, repaired and their answers read: those of Reconstruct alone.
+const ROUND_TRIP: [usize; 5] = [4, 5, 6, 7, 8];
 // Those of 01's examples.
 const EXAMPLES: [usize; 3] = [4, 8, 11];
 // Steps by valid fields to any total.
@@ -61,6 +65,12 @@ fn main() {
     }
     check_published::published(&mut tally, &mut random, scaled(100_000));
     tally.end_part("published", &PUBLISHED, &OUTCOMES);
+    check_files::writes(&mut tally, &mut random, scaled(100_000));
+    tally.end_part("write field", &WRITE_FIELD, &[]);
+    check_files::reads(&mut tally, &mut random, scaled(100_000));
+    tally.end_part("read answer", &READ_ANSWER, &OUTCOMES);
+    check_files::round_trips(&mut tally, &mut random, scaled(100_000));
+    tally.end_part("field to answer", &ROUND_TRIP, &OUTCOMES);
 
     if !tally.passes() {
         std::process::exit(1);

@@ -31,9 +31,7 @@ fn wide_sum(list: &[i64]) -> i128 {
 
 pub fn split(targets: &[i64], lows: &[i64], highs: &[i64], weights: &[i64], total: i64, masses: &mut [i64]) -> Result<(), Refusal> {
     let count = targets.len();
-    if count == 0 || count > MAX_CELLS {
-        return refuse(1);
-    }
+    check_cells(count)?;
     if [lows.len(), highs.len(), weights.len(), masses.len()] != [count; 4] {
         return refuse(3);
     }
@@ -58,12 +56,17 @@ pub fn split(targets: &[i64], lows: &[i64], highs: &[i64], weights: &[i64], tota
     Ok(())
 }
 
-/// Checks 1 and 2 of Reconstruct and Step.
-pub fn check_counts(lists: &Lists) -> Result<(), Refusal> {
-    let (cells, nodes) = (lists.targets.len(), lists.parents.len());
+/// Check 1, of cells or items.
+pub fn check_cells(cells: usize) -> Result<(), Refusal> {
     if cells == 0 || cells > MAX_CELLS {
         return refuse(1);
     }
+    Ok(())
+}
+
+/// Checks 1 and 2.
+pub fn check_counts(cells: usize, nodes: usize) -> Result<(), Refusal> {
+    check_cells(cells)?;
     if nodes < cells || nodes > MAX_NODES {
         return refuse(2);
     }
@@ -118,7 +121,7 @@ pub fn reconstruct(
     masses: &mut [u32],
     scratch: &mut [i64],
 ) -> Result<Repair, Refusal> {
-    check_counts(lists)?;
+    check_counts(lists.targets.len(), lists.parents.len())?;
     check_lengths(lists, masses.len(), scratch.len())?;
     check_field(workspace, lists)?;
     check_total(lists, total)?;
@@ -129,9 +132,7 @@ pub fn reconstruct(
 
 /// Returns the total.
 pub fn open(kept: &[u32]) -> Result<u32, Refusal> {
-    if kept.is_empty() || kept.len() > MAX_CELLS {
-        return refuse(1);
-    }
+    check_cells(kept.len())?;
     let total = sum(kept);
     if total > LIMIT {
         return refuse(13);
@@ -147,7 +148,7 @@ pub fn step(
     lists: &Lists,
     scratch: &mut [i64],
 ) -> Result<Repair, Refusal> {
-    check_counts(lists)?;
+    check_counts(lists.targets.len(), lists.parents.len())?;
     check_lengths(lists, kept.len(), scratch.len())?;
     check_field(workspace, lists)?;
     if sum(kept) != u64::from(total) {

@@ -207,9 +207,9 @@ pub fn total(random: &mut Random, field: &Field) -> u32 {
     wanted.clamp(0, i64::from(u32::MAX)) as u32
 }
 
-/// A number that is likely to be wrong somewhere.
-pub fn odd_number(random: &mut Random, field: &Field) -> u32 {
-    let (cells, nodes) = (field.targets.len() as u32, field.parents.len() as u32);
+/// A number that is likely to be wrong somewhere in a field of so many cells and nodes.
+pub fn odd_number(random: &mut Random, cells: usize, nodes: usize) -> u32 {
+    let (cells, nodes) = (cells as u32, nodes as u32);
     match random.below(4) {
         0 => random.pick(&[0, 1, cells, cells.wrapping_sub(1), cells + 1, nodes, nodes.wrapping_sub(1), nodes + 1]),
         1 => random.pick(&[LIMIT as u32, LIMIT as u32 + 1, u32::MAX, u32::MAX - 1, 512, 513, 1024, 1025]),
@@ -236,7 +236,7 @@ fn pass_limit(random: &mut Random, list: &mut [u32]) {
 
 /// Breaks a field's sense, or tries to: a parent, a bound or a weight.
 pub fn break_field(random: &mut Random, field: &mut Field) {
-    let value = odd_number(random, field);
+    let value = odd_number(random, field.targets.len(), field.parents.len());
     let nearby = |list: &[u32]| list.first().map_or(0, |&first| first.wrapping_add(1));
     match random.below(12) {
         0..=3 => break_list(random, &mut field.parents, value),

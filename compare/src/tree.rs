@@ -4,7 +4,7 @@
 use crate::split::{share_out, Item};
 
 /// The seven lists of a field, lent.
-#[derive(Clone, Copy)]
+#[derive(Clone, Copy, PartialEq)]
 pub struct Lists<'a> {
     pub targets: &'a [i32],
     pub lows: &'a [u32],

@@ -1,5 +1,5 @@
-/* Opens a kept field, steps it three times (the second step is refused), imports a cell's doubles, exports a mass, and repairs a field
- * file. Usage: example FIELD_FILE. The status is 0 if the file was repaired, else 1. */
+/* Opens a kept field, steps it three times (the second step is refused), imports a cell's doubles, exports a mass, writes the field as a
+ * file and repairs that file, and repairs the file named. Usage: example FIELD_FILE. The status is 0 if both were repaired, else 1. */
 #include <inttypes.h>
 #include <stdio.h>
 
@@ -8,10 +8,23 @@
 #define CELLS 4
 #define NODES 7
 
+/* The field that is stepped and written. */
+static const int32_t targets[CELLS] = {-2, 9, 4, 5};
+static const uint32_t lows[CELLS] = {0, 0, 0, 0}, highs[CELLS] = {8, 8, 8, 8};
+static const uint32_t safe_lows[CELLS] = {0, 0, 0, 0}, safe_highs[CELLS] = {10, 10, 10, 10};
+static const uint32_t weights[CELLS] = {0, 0, 0, 0};
+static const uint32_t parents[NODES] = {4, 4, 5, 5, 6, 6, 6};
+
 /* Prints a refusal's number and place. */
 static int refused(uint64_t returned) {
     printf(" refused %" PRIu32 " %" PRIu32 "\n", LEGZHURO_NUMBER(returned), LEGZHURO_PLACE(returned));
     return 1;
+}
+
+static void print_masses(const uint32_t *masses, size_t cells) {
+    printf(" masses");
+    for (size_t c = 0; c < cells; c++) printf(" %" PRIu32, masses[c]);
+    printf("\n");
 }
 
 static int open_field(const uint32_t *kept, uint64_t *total) {
@@ -23,11 +36,6 @@ static int open_field(const uint32_t *kept, uint64_t *total) {
 }
 
 static int step(uint64_t *total, uint32_t *kept, int32_t source) {
-    static const int32_t targets[CELLS] = {-2, 9, 4, 5};
-    static const uint32_t lows[CELLS] = {0, 0, 0, 0}, highs[CELLS] = {8, 8, 8, 8};
-    static const uint32_t safe_lows[CELLS] = {0, 0, 0, 0}, safe_highs[CELLS] = {10, 10, 10, 10};
-    static const uint32_t weights[CELLS] = {0, 0, 0, 0};
-    static const uint32_t parents[NODES] = {4, 4, 5, 5, 6, 6, 6};
     static int64_t scratch[LEGZHURO_SCRATCH * NODES];
     uint64_t answer[3];
 
@@ -37,9 +45,8 @@ static int step(uint64_t *total, uint32_t *kept, int32_t source) {
                       weights, CELLS, parents, NODES, scratch, LEGZHURO_SCRATCH * NODES, answer, 3);
     if (returned != 0) return refused(returned);
     *total = answer[1];
-    printf(" outcome %" PRIu64 " total %" PRIu64 " change %" PRIu64 " masses", answer[0], answer[1], answer[2]);
-    for (int i = 0; i < CELLS; i++) printf(" %" PRIu32, kept[i]);
-    printf("\n");
+    printf(" outcome %" PRIu64 " total %" PRIu64 " change %" PRIu64, answer[0], answer[1], answer[2]);
+    print_masses(kept, CELLS);
     return 0;
 }
 
@@ -58,24 +65,38 @@ static int convert(void) {
     return 0;
 }
 
-/* A word of an answer file; blocks are numbered from 1, words from 0. */
-static uint32_t word(const uint8_t *file, uint32_t block, uint32_t index) {
-    const uint8_t *bytes = file + 512 * (block - 1) + 4 * index;
-    return bytes[0] | (uint32_t)bytes[1] << 8 | (uint32_t)bytes[2] << 16 | (uint32_t)bytes[3] << 24;
+/* Repairs a field file and reads the answer. */
+static int repair(const uint8_t *file, size_t length) {
+    static uint8_t answer_file[LEGZHURO_MAX_ANSWER_FILE];
+    static uint32_t masses[LEGZHURO_MAX_CELLS];
+    uint64_t answer[4];
+
+    uint32_t number = legzhuro_reconstruct(file, length, answer_file, sizeof answer_file);
+    if (number != 0) return refused(number);
+    size_t cells = file[8] + 256u * file[9]; /* where a field file has its number of cells */
+    uint64_t returned = legzhuro_read_answer(answer_file, LEGZHURO_ANSWER_FILE(cells), masses, LEGZHURO_MAX_CELLS, answer, 4);
+    if (returned != 0) return refused(returned);
+    printf(" outcome %" PRIu64 " cells %" PRIu64 " total %" PRIu64 " change %" PRIu64, answer[1], answer[0], answer[2], answer[3]);
+    print_masses(masses, cells);
+    return 0;
 }
 
-static int repair(FILE *in) {
-    static uint8_t file[LEGZHURO_MAX_FIELD_FILE + 1], answer[LEGZHURO_MAX_ANSWER_FILE]; /* a byte more, so that a longer file is refused */
+static int repair_written(uint32_t total) {
+    static uint8_t file[LEGZHURO_FIELD_FILE(CELLS, NODES)];
+
+    printf("written:");
+    uint64_t returned = legzhuro_write_field(CELLS, NODES, total, targets, CELLS, lows, CELLS, highs, CELLS, safe_lows, CELLS, safe_highs,
+                                             CELLS, weights, CELLS, parents, NODES, file, sizeof file);
+    if (returned != 0) return refused(returned);
+    return repair(file, sizeof file);
+}
+
+static int repair_read(FILE *in) {
+    static uint8_t file[LEGZHURO_MAX_FIELD_FILE + 1]; /* a byte more, so that a longer file is refused */
     size_t length = fread(file, 1, sizeof file, in);
 
     printf("file:");
-    uint32_t number = legzhuro_reconstruct(file, length, answer, sizeof answer);
-    if (number != 0) return refused(number);
-    uint32_t cells = word(answer, 1, 2); /* block 1 has 512, cells, outcome, total, change; the masses follow, 125 to a block */
-    printf(" outcome %" PRIu32 " cells %" PRIu32 " masses", word(answer, 1, 3), cells);
-    for (uint32_t c = 0; c < cells; c++) printf(" %" PRIu32, word(answer, 2 + c / 125, 1 + c % 125));
-    printf("\n");
-    return 0;
+    return repair(file, length);
 }
 
 int main(int argc, char **argv) {
@@ -91,8 +112,8 @@ int main(int argc, char **argv) {
     step(&total, kept, 6);
     step(&total, kept, 100);
     step(&total, kept, -9);
-    if (convert() != 0) return 1;
-    int status = repair(in);
+    if (convert() != 0 || repair_written(16) != 0) return 1;
+    int status = repair_read(in);
     fclose(in);
     return status;
 }

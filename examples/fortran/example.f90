@@ -1,4 +1,5 @@
-! Opens a kept field, steps it twice (the second step is refused), exports the masses as doubles, and repairs a field file.
+! Opens a kept field, steps it twice (the second step is refused), exports the masses as doubles, writes the field as a file and
+! repairs that file, and repairs the file named.
 ! Usage: example FIELD_FILE. To build it, after rt staticlib legzhuro_c:
 ! gfortran -Jtarget include/legzhuro.f90 examples/fortran/example.f90 target/staticlib/liblegzhuro_c.a -o target/example_fortran
 program example
@@ -6,30 +7,32 @@ program example
     use legzhuro
     implicit none
     integer(c_size_t), parameter :: cells = 4, nodes = 7
+    ! The field that is stepped and written.
+    integer(c_int32_t), parameter :: targets(cells) = [-2, 9, 4, 5], lows(cells) = 0, highs(cells) = 8
+    integer(c_int32_t), parameter :: safe_lows(cells) = 0, safe_highs(cells) = 10, weights(cells) = 0
+    integer(c_int32_t), parameter :: parents(nodes) = [4, 4, 5, 5, 6, 6, 6]
     integer(c_int32_t) :: kept(cells) = [1, 2, 3, 4], total
-    integer(c_int64_t) :: answer(3), returned
+    integer(c_int64_t) :: answer(4), returned
 
-    returned = legzhuro_open(kept, cells, answer, 3_c_size_t)
+    returned = legzhuro_open(kept, cells, answer, size(answer, kind=c_size_t))
     if (returned /= 0) error stop 'the kept field was refused'
     total = int(answer(1), c_int32_t)
     print '(a, i0)', 'open: total ', total
     call step(6)
     call step(100)
     call export_masses(1)
-    call repair_file()
+    call repair_written(16)
+    call repair_read()
 
 contains
 
     subroutine step(source)
         integer(c_int32_t), intent(in) :: source
-        integer(c_int32_t), parameter :: targets(cells) = [-2, 9, 4, 5], lows(cells) = 0, highs(cells) = 8
-        integer(c_int32_t), parameter :: safe_lows(cells) = 0, safe_highs(cells) = 10, weights(cells) = 0
-        integer(c_int32_t), parameter :: parents(nodes) = [4, 4, 5, 5, 6, 6, 6]
         integer(c_int64_t) :: scratch(legzhuro_scratch*nodes)
 
         returned = legzhuro_step(total, kept, cells, source, targets, cells, lows, cells, highs, cells, safe_lows, cells, &
                                  safe_highs, cells, weights, cells, parents, nodes, scratch, size(scratch, kind=c_size_t), &
-                                 answer, 3_c_size_t)
+                                 answer, size(answer, kind=c_size_t))
         if (returned /= 0) then
             print '(a, i0, 2(a, i0))', 'step ', source, ': refused ', legzhuro_number(returned), ' ', legzhuro_place(returned)
             return
@@ -51,10 +54,40 @@ contains
         print '(a, *(f4.1))', 'exported:', masses
     end subroutine export_masses
 
-    subroutine repair_file()
-        integer(c_int8_t) :: file_answer(legzhuro_max_answer_file)
+    ! Repairs a field file, reads the answer and prints it after a name.
+    subroutine repair(name, file)
+        character(*), intent(in) :: name
+        integer(c_int8_t), intent(in) :: file(:)
+        integer(c_int8_t) :: answer_file(legzhuro_max_answer_file)
+        integer(c_int32_t) :: masses(legzhuro_max_cells)
+        integer(c_size_t) :: length
+
+        returned = legzhuro_reconstruct(file, size(file, kind=c_size_t), answer_file, size(answer_file, kind=c_size_t))
+        if (returned == 0) then
+            length = legzhuro_answer_file(iand(int(file(9), c_size_t), 255_c_size_t) + 256*file(10)) ! of the file's number of cells
+            returned = legzhuro_read_answer(answer_file, length, masses, size(masses, kind=c_size_t), answer, &
+                                            size(answer, kind=c_size_t))
+        end if
+        if (returned /= 0) then
+            print '(2a, i0, a, i0)', name, ': refused ', legzhuro_number(returned), ' ', legzhuro_place(returned)
+            return
+        end if
+        print '(a, 4(a, i0), a, *(1x, i0))', name, ': outcome ', answer(2), ' cells ', answer(1), ' total ', answer(3), &
+            ' change ', answer(4), ' masses', masses(:answer(1))
+    end subroutine repair
+
+    subroutine repair_written(total)
+        integer(c_int32_t), intent(in) :: total
+        integer(c_int8_t) :: file(legzhuro_field_file(cells, nodes))
+
+        returned = legzhuro_write_field(cells, nodes, total, targets, cells, lows, cells, highs, cells, safe_lows, cells, &
+                                        safe_highs, cells, weights, cells, parents, nodes, file, size(file, kind=c_size_t))
+        if (returned /= 0) error stop 'the field was refused'
+        call repair('written', file)
+    end subroutine repair_written
+
+    subroutine repair_read()
         integer(c_int8_t), allocatable :: file(:)
-        integer(c_int32_t) :: number, words(0:127)
         character(1000) :: name
         integer :: unit, length
 
@@ -65,13 +98,7 @@ contains
         allocate (file(length))
         read (unit) file
         close (unit)
-        number = legzhuro_reconstruct(file, size(file, kind=c_size_t), file_answer, size(file_answer, kind=c_size_t))
-        if (number /= 0) then
-            print '(a, i0)', 'file: refused ', number
-            return
-        end if
-        words = transfer(file_answer(1:512), words) ! block 1, on a little-endian machine
-        print '(4(a, i0))', 'file: outcome ', words(3), ' cells ', words(2), ' total ', words(4), ' change ', words(5)
-    end subroutine repair_file
+        call repair('file', file)
+    end subroutine repair_read
 
 end program example

@@ -3,7 +3,7 @@
 //! alike.
 
 use compare::calls;
-use compare::files::{answer_file_length, reconstruct_file, write_field, FileWorkspace};
+use compare::files::{answer_file_length, field_file, reconstruct_file, FileWorkspace};
 use compare::from_c::step;
 use compare::random::{binary, chain, flat, partition, Random};
 use compare::tree::{sum, Field, Workspace};
@@ -80,7 +80,7 @@ fn measure_step(random: &mut Random, field: &Field, total: u32) -> (f64, f64) {
 }
 
 fn measure_file(field: &Field, total: u32) -> (f64, f64) {
-    let (file, mut workspace) = (write_field(field, total), FileWorkspace::default());
+    let (file, mut workspace) = (field_file(field, total), FileWorkspace::default());
     let mut answer = vec![0; answer_file_length(field.targets.len())];
     let mut answer_too = answer.clone();
     let mut library = || assert!(calls::reconstruct(black_box(&file), black_box(&mut answer)) == 0);

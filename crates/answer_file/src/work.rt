@@ -1,14 +1,20 @@
-// The blocks of an answer file.
+// The blocks of an answer file, as they are written; what an accepted file holds.
 ghost use mathlib.Core.Path.{_≡_};
 ghost use Prim.Native.Nat.{_*_, _≤_};
 ghost use lib.ListN.{length};
 ghost use Rattle.numbers.specs.Lists.{written};
+ghost use Rattle.numbers.specs.Checks.{answered, after};
 ghost use Rattle.blocks.specs.Blocks.{blockBytes};
 ghost use Rattle.files_spec.specs.AnswerFile.{answerBlocks, answerHead, answerBytes};
 ghost use Rattle.files_spec.specs.WriteAnswer.{writeCall, writeVerdict, WriteContract};
+ghost use Rattle.files_spec.specs.ReadAnswer.{answerCells, answerRepair, answerMasses, AnswerMeasured, answerOf, answerReadTells};
 use crate::verdict::file_length;
 use blocks::block::fill_block;
+use blocks::block::payload_word;
+use blocks::tables::LIST;
 use blocks::tables::put_list;
+use blocks::tables::read_column;
+use files_spec::AnswerRead;
 use files_spec::AnswerWritten;
 use numbers::Checked;
 use qlt_spec::Repair;
@@ -49,4 +55,43 @@ pub fn write_by(
     }
     put_answer(buffer, cells, repair, masses);
     AnswerWritten::Bytes(file_length(cells))
+}
+
+// The masses by the verdict: a refused call leaves the list as it was.
+pub fn read_by(verdict: Checked, file: &[u8], masses: &mut [u32])
+    requires { ⌜ AnswerMeasured (now file) × (answerCells (now file) ≤ length (now masses)) ⌝ }
+    ensures { λ _.
+        ⌜ now (masses .exit) ≡ after verdict (written (now (masses .entry)) 0 (answerMasses (now (file .entry)))) (now (masses .entry)) ⌝ }
+{
+    if let Checked::Pass = verdict {
+        read_column(file, LIST, 2, 0, payload_word(file, 1, 1) as usize, masses);
+    }
+}
+
+// What block 1 tells of the repair.
+fn told_repair(file: &[u8]) -> Repair
+    requires { ⌜ 512 ≤ length (now file) ⌝ }
+    ensures { λ r. ⌜ r ≡ answerRepair (now (file .entry)) ⌝ }
+{
+    let low = payload_word(file, 1, 4) as u64;
+    let high = payload_word(file, 1, 5) as u64;
+    Repair {
+        outcome: payload_word(file, 1, 2),
+        total: payload_word(file, 1, 3),
+        change: low + high * 4294967296,
+    }
+}
+
+// The answer by the verdict.
+pub fn answer_by(verdict: Checked, file: &[u8]) -> AnswerRead
+    requires { ⌜ AnswerMeasured (now file) ⌝ }
+    ensures { λ r. ⌜ answerReadTells r ≡ answered verdict (answerOf (now (file .entry))) ⌝ }
+{
+    if let Checked::Fail { number, place } = verdict {
+        return AnswerRead::Refused { number, place };
+    }
+    AnswerRead::Read {
+        cells: payload_word(file, 1, 1) as usize,
+        repair: told_repair(file),
+    }
 }

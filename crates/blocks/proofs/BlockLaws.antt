@@ -1,7 +1,7 @@
 -- Laws of blocks: what the checks mean, and that a block passes exactly if it is the bytes of some words at its number. Assumes nothing.
 use mathlib.Core.Path.{_≡_, refl, sym, ap, _∙_, subst}
 use mathlib.Core.Logic.{_↔_}
-use mathlib.Core.Bool.{true, false, _&&_}
+use mathlib.Core.Bool.{Bool, true, false, _&&_, cond}
 use mathlib.Core.List.{List, [], _∷_, _++_, append-assoc}
 use Prim.Native.Nat.{ℕ, zero, suc, _+_, _*_, _-_, _/_, _%_, _^_, _≤_, _<_}
 use native.Mathlib.Numerals.{sub-one}
@@ -79,6 +79,15 @@ blockOf-bytes file b y z h = rw (hasBlock-in file b z h) (bytes-part 512 (512 * 
 pub payloadOf-bytes : (file : List ℕ) (b : ℕ) → Bytes file → 0 < b → 512 * b ≤ length file → Bytes (payloadOf file b)
 unfolding payloadOf
 payloadOf-bytes file b y z h = rw (hasBlock-in file b z h) (bytes-part 500 (512 * (b - 1) + 4) file y)
+
+-- a payload word fits 32 bits, whether the file has the block or not
+pub payloadWord-small : (file : List ℕ) (b k : ℕ) → Bytes file → payloadWord file b k < 2 ^ 32
+unfolding payloadWord payloadOf
+payloadWord-small file b k y = go (hasBlock file b)
+  where
+    go : (h : Bool) → wordAt (cond h (take 500 (drop (512 * (b - 1) + 4) file)) []) (4 * k) < 2 ^ 32
+    go true = wordAt-small (take 500 (drop (512 * (b - 1) + 4) file)) (4 * k) (bytes-part 500 (512 * (b - 1) + 4) file y)
+    go false = wordAt-small [] (4 * k) (λ i. omega arith)
 
 -- a payload word is the block's next word
 pub block-word : (file : List ℕ) (b k : ℕ) → 0 < b → 512 * b ≤ length file → k < 125 → payloadWord file b k ≡ wordOf (blockOf file b) (suc k)

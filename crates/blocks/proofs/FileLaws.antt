@@ -169,6 +169,10 @@ module _ (file : List ℕ) (used : ℕ → ℕ) (k : ℕ) (s : k < 2 ^ 32) (u : 
     pub words-pass : checkBlock file used b ≡ Pass
     words-pass = ap (λ x. checkBlock x used b) (i .same) ∙ file-passes (i .words) used k b z l (omega arith) (u b) (i .count b z l) (i .fit b z l)
 
+  -- so a file is the bytes of any words that agree with them
+  pub file-own : IsFile file used k → (ws : ℕ → List ℕ) → ((b : ℕ) → 0 < b → b ≤ k → ws b ≡ listTo (used b) (payloadWord file b)) → file ≡ fileBytes ws k
+  file-own i ws h = i .same ∙ fileBytes-ext (i .words) ws k (λ b z l. words-own i b z l ∙ sym (h b z l))
+
   module _ (y : Bytes file) (e : length file ≡ 512 * k) where
     own-file : ((b : ℕ) → 0 < b → b ≤ k → SoundBlock (blockOf file b) b × SpareZero file (used b) b) → IsFile file used k
     own-file h =

@@ -55,7 +55,7 @@ module _ (T : Table) (g : TableFits T) where
   word-in i j h = omega (arith, mul-suc w (i % r), mul-le-mul-left w (mod-lt i (g .some-records)), g .payload)
 
   -- a word that a block uses is one of a record
-  record-of : (n k x : ℕ) → x < tableUsed T n k → (x / w < r) × (r * k + x / w < n)
+  pub record-of : (n k x : ℕ) → x < tableUsed T n k → (x / w < r) × (r * k + x / w < n)
   record-of n k x l =
       let h : x / w < min r (n - r * k) = div-lt-iff-lt-mul (g .some-words) .1 (subst (λ y. x < y) (mul-comm w (min r (n - r * k))) l) in
       omega arith
@@ -124,6 +124,16 @@ module _ (T : Table) (g : TableFits T) where
         file-word ws k (from + i / r) (w * (i % r) + j) (omega arith) (omega arith) (omega arith) (word-in i j h) (subst Words (sym here) (tableWords-small s (i / r)))
         ∙ ap (λ x. at x (w * (i % r) + j)) here
         ∙ tableWords-at i j m h
+
+  -- tables agree where their words do
+  pub tableWords-ext : (n : ℕ) (u v : ℕ → ℕ → ℕ) (k : ℕ) → ((i j : ℕ) → i < n → j < w → u i j ≡ v i j) → tableWords T n u k ≡ tableWords T n v k
+  unfolding tableWords
+  tableWords-ext n u v k h = listTo-ext (tableUsed T n k) _ _ (λ x l. h (r * k + x / w) (x % w) (record-of n k x l .1) (mod-lt x (g .some-words)))
+
+  pub tableBytes-ext : (n : ℕ) (u v : ℕ → ℕ → ℕ) → ((i j : ℕ) → i < n → j < w → u i j ≡ v i j) → (from q : ℕ) → tableBytes T n u from q ≡ tableBytes T n v from q
+  unfolding tableBytes
+  tableBytes-ext n u v h from zero = refl
+  tableBytes-ext n u v h from (suc q) = ap₂ (λ x y. x ++ blockBytes (from + q) y) (tableBytes-ext n u v h from q) (tableWords-ext n u v q h)
 
   -- the table that is read from a file has the words of its blocks
   pub table-own : (file : List ℕ) (from n k : ℕ) → tableWords T n (λ i j. tableWord T file from j i) k ≡ listTo (tableUsed T n k) (payloadWord file (from + k))

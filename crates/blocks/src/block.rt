@@ -124,10 +124,10 @@ fn put_words(block: &mut [u8], number: u32, payload: &[u32])
     requires { ⌜ length (now block) ≡ 512 ⌝ }
     ensures { λ _. ⌜ now (block .exit) ≡ wordsBytes 126 (headWord number (now (payload .entry))) ++ drop 504 (now (block .entry)) ⌝ }
 {
-    let mut i: usize = 0;
-    while i < 126 {
-        put_word(block, 4 * i, head_word(number, payload, i));
-        i += 1;
+    let mut k: usize = 0;
+    while k < 126 {
+        put_word(block, 4 * k, head_word(number, payload, k));
+        k += 1;
     }
 }
 

@@ -2,6 +2,7 @@
 ghost use mathlib.Core.Path.{_≡_};
 ghost use Prim.Native.Nat.{_+_, _*_, _-_, _/_, _≤_, _<_, _^_};
 ghost use lib.ListN.{length};
+ghost use Rattle.numbers.specs.Sums.{ℕ-adds, sumTo};
 ghost use Rattle.numbers.specs.Lists.{at, listTo, written};
 ghost use Rattle.blocks.specs.Words.{wordSigned};
 ghost use Rattle.blocks.specs.Blocks.{blockBytes};
@@ -92,6 +93,27 @@ pub fn read_signed(file: &[u8], table: Table, from: usize, j: usize, n: usize, l
         list[i] = word_signed(table_word(file, table, from, j, i));
         i += 1;
     }
+}
+
+// Word j of record i, with room to add up; and the sum of word j of each of n records.
+fn wide_word(file: &[u8], table: Table, from: usize, j: usize, i: usize) -> u64
+    requires { ⌜ TableFits table × (0 < from) × (512 * (from + i / table .records) ≤ length (now file)) × (j < table .words) ⌝ }
+    ensures { λ r. ⌜ (r ≡ tableWord table (now (file .entry)) from j i) × (r < 2 ^ 32) ⌝ }
+{
+    table_word(file, table, from, j, i) as u64
+}
+
+pub fn sum_column(file: &[u8], table: Table, from: usize, j: usize, n: usize) -> u64
+    requires { ⌜ HasTable table (now file) from n × (j < table .words) × (n ≤ 1024) ⌝ }
+    ensures { λ r. ⌜ (r ≡ sumTo ℕ-adds n (tableWord table (now (file .entry)) from j)) × (r < 2 ^ 42) ⌝ }
+{
+    let mut sum: u64 = 0;
+    let mut i: usize = 0;
+    while i < n {
+        sum += wide_word(file, table, from, j, i);
+        i += 1;
+    }
+    sum
 }
 
 // The k-th block of the first n numbers of a list, 125 to a block, the first of them being block `from` of the file.

@@ -62,19 +62,19 @@ words (x ∷ l) s (suc i) = words l (s .1) i
 four : (x : ℕ) → x < 2 ^ 32 → Small (x ∷ x ∷ x ∷ x ∷ [])
 four x h = (h, (h, (h, (h, tt))))
 
-least : (i : ℕ) → i < 4 → negsuc 2147483647 ≤ℤ atℤ (e1Lists .targets) i
-least zero l = record { le = tt }
-least (suc zero) l = record { le = tt }
-least (suc (suc zero)) l = record { le = tt }
-least (suc (suc (suc zero))) l = record { le = tt }
-least (suc (suc (suc (suc i)))) l = omega arith
+least : (i : ℕ) → negsuc 2147483647 ≤ℤ atℤ (e1Lists .targets) i
+least zero = record { le = tt }
+least (suc zero) = record { le = tt }
+least (suc (suc zero)) = record { le = tt }
+least (suc (suc (suc zero))) = record { le = tt }
+least (suc (suc (suc (suc i)))) = record { le = tt }
 
-most : (i : ℕ) → i < 4 → atℤ (e1Lists .targets) i ≤ℤ pos 2147483647
-most zero l = record { le = tt }
-most (suc zero) l = record { le = tt }
-most (suc (suc zero)) l = record { le = tt }
-most (suc (suc (suc zero))) l = record { le = tt }
-most (suc (suc (suc (suc i)))) l = omega arith
+most : (i : ℕ) → atℤ (e1Lists .targets) i ≤ℤ pos 2147483647
+most zero = record { le = tt }
+most (suc zero) = record { le = tt }
+most (suc (suc zero)) = record { le = tt }
+most (suc (suc (suc zero))) = record { le = tt }
+most (suc (suc (suc (suc i)))) = record { le = tt }
 
 storable : Storable e1Lists 16
 storable =
@@ -88,15 +88,18 @@ storable =
       safeLows = refl;
       safeHighs = refl;
       weights = refl;
-      least = least;
-      most = most;
-      low-words = words (e1Lists .lows) (four 0 (omega arith));
-      high-words = words (e1Lists .highs) (four 8 (omega arith));
-      safe-low-words = words (e1Lists .safeLows) (four 0 (omega arith));
-      safe-high-words = words (e1Lists .safeHighs) (four 10 (omega arith));
-      weight-words = words (e1Lists .weights) (four 0 (omega arith));
-      parent-words = words (e1Lists .parents) (omega arith, (omega arith, (omega arith, (omega arith, (omega arith, (omega arith, (omega arith, tt)))))));
-      total-word = omega arith;
+      typed =
+          record {
+            least = least;
+            most = most;
+            low-words = words (e1Lists .lows) (four 0 (omega arith));
+            high-words = words (e1Lists .highs) (four 8 (omega arith));
+            safe-low-words = words (e1Lists .safeLows) (four 0 (omega arith));
+            safe-high-words = words (e1Lists .safeHighs) (four 10 (omega arith));
+            weight-words = words (e1Lists .weights) (four 0 (omega arith));
+            parent-words = words (e1Lists .parents) (omega arith, (omega arith, (omega arith, (omega arith, (omega arith, (omega arith, (omega arith, tt)))))));
+            total-word = omega arith;
+          };
     }
 
 e1-verdict : reconstructVerdict (callOf e1Lists 16) ≡ Pass

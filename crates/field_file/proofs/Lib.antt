@@ -1,2 +1,2 @@
--- Laws for the reader in code.
+-- Laws for the reader and the writer in code.
 pub mod Laws

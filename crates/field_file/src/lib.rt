@@ -1,9 +1,13 @@
-// The operation Read a field file. Public: `read_field`; the checks and the reading of the lists are in modules of their own, for this
-// crate alone. Relies on `files_spec`, `blocks`, `field_checks`, `qlt_spec` and `numbers`.
+// The operations Read a field file and Write a field file. Public: `read_field`, `write_field`; the checks, the reading of the lists and
+// the writing of the blocks are in modules of their own, for this crate alone. Relies on `files_spec`, `blocks`, `field_checks`,
+// `qlt_spec` and `numbers`.
 ghost use Rattle.qlt_spec.specs.Field.{lists};
 ghost use Rattle.files_spec.specs.ReadField.{ReadContract};
+ghost use Rattle.files_spec.specs.WriteField.{fieldWriteCall, FieldWriteContract};
 use files_spec::FieldRead;
+use files_spec::FieldWritten;
 
+mod cells;
 mod verdict;
 mod work;
 
@@ -49,4 +53,54 @@ pub fn read_field(
         parents,
     );
     work::answer_by(verdict, file)
+}
+
+// Writes the field file of the first `cells` entries of six lists, the first `nodes` parents and the total to the front of the buffer, and
+// returns its length. A refused call writes nothing.
+pub fn write_field(
+    cells: usize,
+    nodes: usize,
+    total: u32,
+    targets: &[i32],
+    lows: &[u32],
+    highs: &[u32],
+    safe_lows: &[u32],
+    safe_highs: &[u32],
+    weights: &[u32],
+    parents: &[u32],
+    buffer: &mut [u8],
+) -> FieldWritten
+    ensures { λ r.
+        ⌜ FieldWriteContract (fieldWriteCall cells nodes total
+        (lists (now (targets .entry)) (now (lows .entry)) (now (highs .entry)) (now («safe_lows» .entry)) (now («safe_highs» .entry))
+        (now (weights .entry)) (now (parents .entry)))
+        (now (buffer .entry))) r (now (buffer .exit)) ⌝ }
+{
+    cells::see_targets(targets);
+    let checked = verdict::write_verdict(
+        cells,
+        nodes,
+        targets,
+        lows,
+        highs,
+        safe_lows,
+        safe_highs,
+        weights,
+        parents,
+        buffer,
+    );
+    work::write_by(
+        checked,
+        cells,
+        nodes,
+        total,
+        targets,
+        lows,
+        highs,
+        safe_lows,
+        safe_highs,
+        weights,
+        parents,
+        buffer,
+    )
 }

@@ -1,13 +1,14 @@
-// The checks of Read a field file, one function each, and their chains in 01's order.
+// The checks of Read a field file and of Write a field file, one function each, and their chains in 01's order.
 ghost use mathlib.Core.Path.{_≡_};
 ghost use mathlib.Core.List.{[], _∷_};
-ghost use Prim.Native.Nat.{_≤_, _<_, _^_};
+ghost use Prim.Native.Nat.{ℕ, _*_, _≤_, _<_, _^_};
 ghost use lib.ListN.{length};
 ghost use Rattle.numbers.specs.declared.Checked.the-variants.{Pass};
 ghost use Rattle.numbers.specs.Checks.{first};
 ghost use Rattle.qlt_spec.specs.Field.{lists};
 ghost use Rattle.files_spec.specs.FieldFile.{fieldBlocks};
 ghost use Rattle.files_spec.specs.ReadField.{checkRoom, blockChecks, sizeChecks, headVerdict, laterVerdict, Measured};
+ghost use Rattle.files_spec.specs.WriteField.{fieldWriteCall, fieldWriteVerdict};
 use blocks::block::check_sound;
 use blocks::block::check_spare;
 use blocks::block::payload_word;
@@ -161,4 +162,49 @@ pub fn with_later(head: Checked, file: &[u8]) -> Checked
         return Checked::Fail { number, place };
     }
     later_verdict(file)
+}
+
+// How many bytes the file of n cells and m nodes has.
+pub fn file_length(n: usize, m: usize) -> usize
+    requires { ⌜ (n ≤ 512) × (m ≤ 1024) ⌝ }
+    ensures { λ r. ⌜ r ≡ 512 * fieldBlocks n m ⌝ }
+{
+    512 * field_blocks(n, m)
+}
+
+// The chain of Write a field file, whatever the total: n and m, then the lists and the buffer.
+pub fn write_verdict(
+    cells: usize,
+    nodes: usize,
+    targets: &[i32],
+    lows: &[u32],
+    highs: &[u32],
+    safe_lows: &[u32],
+    safe_highs: &[u32],
+    weights: &[u32],
+    parents: &[u32],
+    buffer: &[u8],
+) -> Checked
+    ensures { λ r.
+        ⌜ ((total : ℕ) → r ≡ fieldWriteVerdict (fieldWriteCall cells nodes total
+        (lists (now (targets .entry)) (now (lows .entry)) (now (highs .entry)) (now («safe_lows» .entry)) (now («safe_highs» .entry))
+        (now (weights .entry)) (now (parents .entry)))
+        (now (buffer .entry)))) ⌝ }
+{
+    let sizes = then(check_count(cells), check_nodes(cells, nodes));
+    if let Checked::Fail { number, place } = sizes {
+        return Checked::Fail { number, place };
+    }
+    let room = check_room(
+        cells,
+        nodes,
+        targets.len(),
+        lows.len(),
+        highs.len(),
+        safe_lows.len(),
+        safe_highs.len(),
+        weights.len(),
+        parents.len(),
+    );
+    then(room, check_long(buffer.len(), file_length(cells, nodes)))
 }

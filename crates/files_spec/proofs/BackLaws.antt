@@ -28,7 +28,7 @@ use Rattle.files_spec.proofs.ReadLaws.{cell-fits, used-small, read-acce
 -- ---- lists by index
 
 -- a list is that of its elements
-list-back {ℓ} : {X : Type ℓ} (l : List X) (d : X) (k : ℕ) (g : ℕ → X) → length l ≡ k → ((i : ℕ) → i < k → g i ≡ getD l i d) → listTo k g ≡ l
+pub list-back {ℓ} : {X : Type ℓ} (l : List X) (d : X) (k : ℕ) (g : ℕ → X) → length l ≡ k → ((i : ℕ) → i < k → g i ≡ getD l i d) → listTo k g ≡ l
 list-back l d k g e h = ext-getD d (listTo k g) l (length-listTo k g ∙ sym e) (λ i m. let n : i < k = omega (arith, length-listTo k g) in getD-listTo k g i d n ∙ h i n)
 
 -- ---- the words of each block
@@ -41,13 +41,13 @@ module _ (f : Lists) (M : ℕ) where
   m = nodes f
 
   -- the words of the k-th block of cells and of the k-th block of parents
-  cells-at : (k : ℕ) → k < cellBlocks n → fieldWords f M (2 + k) ≡ cellBlock f k
+  pub cells-at : (k : ℕ) → k < cellBlocks n → fieldWords f M (2 + k) ≡ cellBlock f k
   unfolding fieldWords
   cells-at k l =
       let e : 2 + k - 2 ≡ k = omega arith in
       rw (lt-leb (2 + k) 1 (omega arith), le-leb (2 + k) (1 + cellBlocks n) (omega arith), e)
 
-  parents-at : (k : ℕ) → fieldWords f M (2 + cellBlocks n + k) ≡ parentBlock f k
+  pub parents-at : (k : ℕ) → fieldWords f M (2 + cellBlocks n + k) ≡ parentBlock f k
   unfolding fieldWords
   parents-at k =
       let e : 2 + cellBlocks n + k - (2 + cellBlocks n) ≡ k = omega arith in
@@ -65,19 +65,19 @@ module _ (f : Lists) (M : ℕ) where
 
   module _ (g : Storable f M) where
     cell-small : (i : ℕ) → i < n → Words (cellWords f i)
-    cell-small i l zero = signed-back (atℤ (f .targets) i) (g .least i l) (g .most i l) .1
-    cell-small i l (suc zero) = g .low-words i
-    cell-small i l (suc (suc zero)) = g .high-words i
-    cell-small i l (suc (suc (suc zero))) = g .safe-low-words i
-    cell-small i l (suc (suc (suc (suc zero)))) = g .safe-high-words i
-    cell-small i l (suc (suc (suc (suc (suc zero))))) = g .weight-words i
+    cell-small i l zero = signed-back (atℤ (f .targets) i) (g .typed .least i) (g .typed .most i) .1
+    cell-small i l (suc zero) = g .typed .low-words i
+    cell-small i l (suc (suc zero)) = g .typed .high-words i
+    cell-small i l (suc (suc (suc zero))) = g .typed .safe-low-words i
+    cell-small i l (suc (suc (suc (suc zero)))) = g .typed .safe-high-words i
+    cell-small i l (suc (suc (suc (suc (suc zero))))) = g .typed .weight-words i
     cell-small i l (suc (suc (suc (suc (suc (suc k)))))) = omega arith
 
     head-small : Words (512 ∷ n ∷ m ∷ M ∷ [])
     head-small zero = omega arith
     head-small (suc zero) = omega (arith, g .few)
     head-small (suc (suc zero)) = omega (arith, g .nodes-few)
-    head-small (suc (suc (suc zero))) = g .total-word
+    head-small (suc (suc (suc zero))) = g .typed .total-word
     head-small (suc (suc (suc (suc k)))) = omega arith
 
     small : (b : ℕ) → Words (fieldWords f M b)
@@ -87,7 +87,7 @@ module _ (f : Lists) (M : ℕ) where
         go : (p q : Bool) → Words (cond p (512 ∷ n ∷ m ∷ M ∷ []) (cond q (cellBlock f (b - 2)) (parentBlock f (b - (2 + cellBlocks n)))))
         go true q = head-small
         go false true = tableWords-small cellTable cell-fits n (λ i j. at (cellWords f i) j) (λ i j l h. cell-small i l j) (b - 2)
-        go false false = tableWords-small listTable list-fits m (λ i j. at (f .parents) i) (λ i j l h. g .parent-words i) (b - (2 + cellBlocks n))
+        go false false = tableWords-small listTable list-fits m (λ i j. at (f .parents) i) (λ i j l h. g .typed .parent-words i) (b - (2 + cellBlocks n))
 
     -- ---- what is read
 
@@ -108,15 +108,15 @@ module _ (f : Lists) (M : ℕ) where
     unfolding fieldWords
     mark = word 1 0 (omega arith) (omega arith) (omega arith)
 
-    cells-back : fileCells file ≡ n
+    pub cells-back : fileCells file ≡ n
     unfolding fieldWords
     cells-back = word 1 1 (omega arith) (omega arith) (omega arith)
 
-    nodes-back : fileNodes file ≡ m
+    pub nodes-back : fileNodes file ≡ m
     unfolding fieldWords
     nodes-back = word 1 2 (omega arith) (omega arith) (omega arith)
 
-    total-back : fileTotal file ≡ M
+    pub total-back : fileTotal file ≡ M
     unfolding fieldWords
     total-back = word 1 3 (omega arith) (omega arith) (omega arith)
 
@@ -129,14 +129,14 @@ module _ (f : Lists) (M : ℕ) where
     parent-back : (i : ℕ) → i < m → parentWord file n i ≡ at (f .parents) i
     unfolding fieldBytes
     parent-back i l =
-        table-back listTable list-fits m (λ i j. at (f .parents) i) (fieldWords f M) blocks (2 + cellBlocks n) i 0 (λ k h. parents-at k) (λ i j l h. g .parent-words i) (omega arith) (omega arith) (omega (arith, few-blocks)) l (omega arith)
+        table-back listTable list-fits m (λ i j. at (f .parents) i) (fieldWords f M) blocks (2 + cellBlocks n) i 0 (λ k h. parents-at k) (λ i j l h. g .typed .parent-words i) (omega arith) (omega arith) (omega (arith, few-blocks)) l (omega arith)
 
     -- each list
     column : (k : ℕ) (l : List ℕ) → k < 6 → length l ≡ n → ((i : ℕ) → at (cellWords f i) k ≡ at l i) → listTo (fileCells file) (cellWord file k) ≡ l
     column k l h e r = rw cells-back (list-back l 0 n (cellWord file k) e (λ i j. cell-back k i h j ∙ r i))
 
     targets-back : listTo (fileCells file) (λ i. wordSigned (cellWord file 0 i)) ≡ f .targets
-    targets-back = rw cells-back (list-back (f .targets) (pos 0) n (λ i. wordSigned (cellWord file 0 i)) refl (λ i l. ap wordSigned (cell-back 0 i (omega arith) l) ∙ signed-back (atℤ (f .targets) i) (g .least i l) (g .most i l) .0))
+    targets-back = rw cells-back (list-back (f .targets) (pos 0) n (λ i. wordSigned (cellWord file 0 i)) refl (λ i l. ap wordSigned (cell-back 0 i (omega arith) l) ∙ signed-back (atℤ (f .targets) i) (g .typed .least i) (g .typed .most i) .0))
 
     parents-back : listTo (fileNodes file) (parentWord file (fileCells file)) ≡ f .parents
     parents-back = rw (cells-back, nodes-back) (list-back (f .parents) 0 m (parentWord file n) refl parent-back)

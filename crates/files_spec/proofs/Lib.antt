@@ -2,3 +2,8 @@
 pub mod ReadLaws
 pub mod WriteLaws
 pub mod BackLaws
+pub mod WriteFieldLaws
+pub mod FrontLaws
+pub mod ReadAnswerLaws
+pub mod FieldTripLaws
+pub mod AnswerTripLaws

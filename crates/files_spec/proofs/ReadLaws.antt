@@ -43,11 +43,11 @@ used-small n m b = go (leb b 1) (leb b (1 + cellBlocks n))
     go false false = tableUsed-small listTable list-fits m (b - (2 + cellBlocks n))
 
 -- a block of cells uses what the table of cells says, and so for the parents
-used-cells : (n m b : ℕ) → 2 ≤ b → b < 2 + cellBlocks n → fieldUsed n m b ≡ tableUsed cellTable n (b - 2)
+pub used-cells : (n m b : ℕ) → 2 ≤ b → b < 2 + cellBlocks n → fieldUsed n m b ≡ tableUsed cellTable n (b - 2)
 unfolding fieldUsed
 used-cells n m b l h = rw (lt-leb b 1 (omega arith), le-leb b (1 + cellBlocks n) (omega arith))
 
-used-parents : (n m b : ℕ) → 2 + cellBlocks n ≤ b → fieldUsed n m b ≡ tableUsed listTable m (b - (2 + cellBlocks n))
+pub used-parents : (n m b : ℕ) → 2 + cellBlocks n ≤ b → fieldUsed n m b ≡ tableUsed listTable m (b - (2 + cellBlocks n))
 unfolding fieldUsed
 used-parents n m b l = rw (lt-leb b 1 (omega arith), lt-leb b (1 + cellBlocks n) (omega arith))
 

@@ -91,7 +91,7 @@ sum-part n masses h =
 
 module _ (n : ℕ) (r : Repair) (masses : List ℕ) where
   -- the blocks after the first are those of the masses
-  mass-words : (k : ℕ) → answerWords n r masses (2 + k) ≡ massBlock n masses k
+  pub mass-words : (k : ℕ) → answerWords n r masses (2 + k) ≡ massBlock n masses k
   unfolding answerWords
   mass-words k =
       let e : 2 + k - 2 ≡ k = omega arith in

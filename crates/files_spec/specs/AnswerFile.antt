@@ -1,10 +1,11 @@
 -- The bytes of an answer file ('Files' of 01), and where each number of it stands. Assumes nothing.
 use mathlib.Core.Bool.{cond}
 use mathlib.Core.List.{List, [], _∷_}
-use Prim.Native.Nat.{ℕ, _+_, _-_, _/_, _%_, _^_}
+use Prim.Native.Nat.{ℕ, _+_, _-_, _/_, _%_, _^_, _<_}
 use lib.Dec.{leb}
+use Rattle.blocks.specs.Words.{Words}
 use Rattle.blocks.specs.Blocks.{fileBytes}
-use Rattle.blocks.specs.Tables.{tableBlocks, listTable, listBlock}
+use Rattle.blocks.specs.Tables.{tableBlocks, tableUsed, tableWord, listTable, listBlock}
 use Rattle.qlt_spec.specs.declared.Repair.{Repair}
 
 -- what is told of a repaired field: its number of cells, and the repair
@@ -32,3 +33,20 @@ answerWords n r masses b = cond (leb b 1) (answerHead n r) (massBlock n masses (
 -- the whole file, for the first n masses
 unfoldable pub answerBytes : ℕ → Repair → List ℕ → List ℕ
 answerBytes n r masses = fileBytes (answerWords n r masses) (answerBlocks n)
+
+-- ---- reading
+
+-- how many payload words block b uses, in a file of n cells
+unfoldable pub answerUsed : ℕ → ℕ → ℕ
+answerUsed n b = cond (leb b 1) 6 (tableUsed listTable n (b - 2))
+
+-- mass i
+abbrev pub massWord : List ℕ → ℕ → ℕ
+massWord file i = tableWord listTable file 2 0 i
+
+-- ---- each value fits its type: the change has 64 bits, all others 32
+pub record AnswerTyped (r : Repair) (masses : List ℕ) : Type 0 where
+  pub outcome-word : r .outcome < 2 ^ 32
+  pub total-word : r .total < 2 ^ 32
+  pub change-words : r .change < 2 ^ 64
+  pub mass-words : Words masses

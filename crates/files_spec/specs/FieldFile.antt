@@ -1,11 +1,13 @@
 -- The bytes of a field file ('Files' of 01), and where each number of it stands. Assumes nothing.
 use mathlib.Core.Bool.{cond}
 use mathlib.Core.List.{List, [], _∷_}
-use Prim.Native.Nat.{ℕ, _+_, _-_}
+use Prim.Native.Nat.{ℕ, _+_, _-_, _^_, _<_}
 use lib.Dec.{leb}
+use lib.IntN.{pos, negsuc}
+use lib.Signed.{_≤ℤ_}
 use lib.ListN.{take}
 use Rattle.numbers.specs.Lists.{at, atℤ, written}
-use Rattle.blocks.specs.Words.{signedWord}
+use Rattle.blocks.specs.Words.{Words, signedWord}
 use Rattle.blocks.specs.declared.tables.Table.{Table}
 use Rattle.blocks.specs.Blocks.{fileBytes}
 use Rattle.blocks.specs.Tables.{table, tableBlocks, tableUsed, tableWords, tableWord, listTable, listBlock}
@@ -82,3 +84,15 @@ overFronts s f =
     (written (s .safeHighs) 0 (f .safeHighs))
     (written (s .weights) 0 (f .weights))
     (written (s .parents) 0 (f .parents))
+
+-- ---- each value fits its type: targets of 32 bits with a sign, all others of 32 bits without
+pub record FieldTyped (s : Lists) (M : ℕ) : Type 0 where
+  pub least : (i : ℕ) → negsuc 2147483647 ≤ℤ atℤ (s .targets) i
+  pub most : (i : ℕ) → atℤ (s .targets) i ≤ℤ pos 2147483647
+  pub low-words : Words (s .lows)
+  pub high-words : Words (s .highs)
+  pub safe-low-words : Words (s .safeLows)
+  pub safe-high-words : Words (s .safeHighs)
+  pub weight-words : Words (s .weights)
+  pub parent-words : Words (s .parents)
+  pub total-word : M < 2 ^ 32

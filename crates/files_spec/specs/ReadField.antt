@@ -6,7 +6,7 @@ use lib.ListN.{length}
 use Rattle.numbers.specs.declared.Checked.{Checked}
 use Rattle.numbers.specs.Lists.{listTo}
 use Rattle.numbers.specs.Checks.{Answered, accepted, refused, answered, after, first, eachFrom, checkCount, checkLong, Rule, rule, ruleFor, rulesFrom}
-use Rattle.blocks.specs.Words.{wordSigned}
+use Rattle.blocks.specs.Words.{Bytes, wordSigned}
 use Rattle.blocks.specs.Blocks.{blockOf, payloadWord, checkSound, checkSpare, checkBlock, SoundBlock, SpareZero, blockRules}
 use Rattle.blocks.specs.Files.{checkFileLength, FileLength, checkBlockCount, checkMark}
 use Rattle.qlt_spec.specs.Field.{Lists, lists}
@@ -172,5 +172,6 @@ listsRead file s = overFronts s (fileLists file)
 
 -- the whole contract of the operation
 pub record ReadContract (file : List ℕ) (s : Lists) (answer : FieldRead) (t : Lists) : Type 0 where
+  pub bytes : Bytes file
   pub answers : readTells answer ≡ answered (readVerdict file s) (sizesOf file)
   pub writes : t ≡ after (readVerdict file s) (listsRead file s) s

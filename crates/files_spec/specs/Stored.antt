@@ -1,14 +1,10 @@
 -- What a field file can hold, and what reading it back means. Assumes nothing.
 use mathlib.Core.Path.{_≡_}
-use Prim.Native.Nat.{ℕ, _^_, _≤_, _<_}
-use lib.IntN.{pos, negsuc}
-use lib.Signed.{_≤ℤ_}
+use Prim.Native.Nat.{ℕ, _≤_, _<_}
 use lib.ListN.{length}
 use Rattle.numbers.specs.declared.Checked.the-variants.{Pass}
-use Rattle.numbers.specs.Lists.{atℤ}
-use Rattle.blocks.specs.Words.{Words}
 use Rattle.qlt_spec.specs.Field.{Lists, cells, nodes}
-use Rattle.files_spec.specs.FieldFile.{fieldBytes}
+use Rattle.files_spec.specs.FieldFile.{fieldBytes, FieldTyped}
 use Rattle.files_spec.specs.ReadField.{readVerdict, sizesOf, fileLists}
 
 -- the lists f and the total M are those of a field that a file can hold
@@ -23,16 +19,7 @@ pub record Storable (f : Lists) (M : ℕ) : Type 0 where
   pub safeLows : length (f .safeLows) ≡ cells f
   pub safeHighs : length (f .safeHighs) ≡ cells f
   pub weights : length (f .weights) ≡ cells f
-  -- each value fits its word
-  pub least : (i : ℕ) → i < cells f → negsuc 2147483647 ≤ℤ atℤ (f .targets) i
-  pub most : (i : ℕ) → i < cells f → atℤ (f .targets) i ≤ℤ pos 2147483647
-  pub low-words : Words (f .lows)
-  pub high-words : Words (f .highs)
-  pub safe-low-words : Words (f .safeLows)
-  pub safe-high-words : Words (f .safeHighs)
-  pub weight-words : Words (f .weights)
-  pub parent-words : Words (f .parents)
-  pub total-word : M < 2 ^ 32
+  pub typed : FieldTyped f M
 
 -- reading the file of f and M into the lists s is accepted, tells the sizes and M, and the field that goes to the front of s is f
 pub record FieldBack (f : Lists) (M : ℕ) (s : Lists) : Type 0 where

@@ -10,7 +10,7 @@ use Rattle.numbers.specs.Sums.{ℕ-adds, sumTo}
 use Rattle.numbers.specs.Lists.{at, written}
 use Rattle.numbers.specs.Checks.{Answered, accepted, refused, answered, after, unless, first, checkCount, Rule, rule, ruleFor}
 use Rattle.qlt_spec.specs.declared.Repair.{Repair}
-use Rattle.files_spec.specs.AnswerFile.{answerBlocks, answerBytes}
+use Rattle.files_spec.specs.AnswerFile.{answerBlocks, answerBytes, AnswerTyped}
 use Rattle.files_spec.specs.declared.AnswerWritten.{AnswerWritten}
 use Rattle.files_spec.specs.declared.AnswerWritten.the-variants.{Bytes, Refused}
 
@@ -80,5 +80,6 @@ answerWrittenOf (refused number place) = Refused number place
 
 -- the whole contract of the operation: bytes past the file are untouched
 pub record WriteContract (c : WriteCall) (answer : AnswerWritten) (buffer : List ℕ) : Type 0 where
+  pub typed : AnswerTyped (c .repair) (c .masses)
   pub answers : writeTells answer ≡ answered (writeVerdict c) (512 * answerBlocks (c .cells))
   pub writes : buffer ≡ after (writeVerdict c) (written (c .buffer) 0 (answerBytes (c .cells) (c .repair) (c .masses))) (c .buffer)

@@ -2,6 +2,7 @@
 // laws (proofs/), and the types and layouts that the code shares; that is in the crates `field_file` and `answer_file`. Relies on `blocks`,
 // `qlt_spec` and `numbers`.
 use blocks::tables::Table;
+use qlt_spec::Repair;
 
 // Cells of a field file: 20 to a block, six words each.
 pub const CELLS: Table = Table {
@@ -9,8 +10,10 @@ pub const CELLS: Table = Table {
     records: 20,
 };
 
-// The largest field file, in bytes: 36 blocks.
+// The largest files, in bytes: 36 blocks and 6 blocks.
 pub const MAX_FIELD_FILE: usize = 18432;
+
+pub const MAX_ANSWER_FILE: usize = 3072;
 
 // What reading a field file answers: the sizes and M, the lists being written; or the refusal.
 pub enum FieldRead {
@@ -25,8 +28,20 @@ pub enum FieldRead {
     },
 }
 
+// What writing a field file answers: how many bytes the file has; or the refusal.
+pub enum FieldWritten {
+    Bytes(usize),
+    Refused { number: u32, place: u32 },
+}
+
 // What writing an answer file answers: how many bytes the file has; or the refusal.
 pub enum AnswerWritten {
     Bytes(usize),
+    Refused { number: u32, place: u32 },
+}
+
+// What reading an answer file answers: the number of cells and what is told of the repair, the masses being written; or the refusal.
+pub enum AnswerRead {
+    Read { cells: usize, repair: Repair },
     Refused { number: u32, place: u32 },
 }

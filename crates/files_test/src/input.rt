@@ -1,6 +1,7 @@
 // The cases, from the whole numbers of the text, as `test_support` reads them.
 ghost use Prim.Native.Nat.{_≤_, _<_};
 ghost use lib.ListN.{length};
+use blocks::words::word_signed;
 use numbers::arith::index;
 use numbers::arith::larger;
 use numbers::arith::smaller;
@@ -9,14 +10,13 @@ use test_support::input::read_unsigned;
 use test_support::input::word;
 
 // A list's length, and the position behind it.
-struct Length {
-    value: usize,
-    next: usize,
+pub struct Length {
+    pub value: usize,
+    pub next: usize,
 }
 
-// The number of a file, the lengths of the lists that it is read into, and the position behind them.
-pub struct ReadCase {
-    pub file: u64,
+// The lengths of the lists of a field, and the position behind them.
+pub struct Lengths {
     pub targets: usize,
     pub lows: usize,
     pub highs: usize,
@@ -27,7 +27,7 @@ pub struct ReadCase {
     pub next: usize,
 }
 
-// What gives the masses: the first, the step from each to the next, and the modulus.
+// What gives a list: the first number, the step from each to the next, and the modulus.
 pub struct Rule {
     pub first: u64,
     pub step: u64,
@@ -44,8 +44,19 @@ pub struct WriteCase {
     pub next: usize,
 }
 
+// The same for Write a field.
+pub struct FieldCase {
+    pub cells: usize,
+    pub nodes: usize,
+    pub total: u32,
+    pub lengths: Lengths,
+    pub buffer: usize,
+    pub rule: Rule,
+    pub next: usize,
+}
+
 // The length at `at`, which counts as `most` if it is more.
-fn read_length(text: &[u8], at: usize, most: u64) -> Length
+pub fn read_length(text: &[u8], at: usize, most: u64) -> Length
     requires { ⌜ at ≤ length (now text) ⌝ }
     ensures { λ r. ⌜ (r .value ≤ most) × (r .next ≤ length (now (text .entry))) ⌝ }
 {
@@ -56,22 +67,20 @@ fn read_length(text: &[u8], at: usize, most: u64) -> Length
     }
 }
 
-// The eight numbers from `at` on.
-pub fn read_read(text: &[u8], at: usize) -> ReadCase
+// The seven lengths from `at` on.
+pub fn read_lengths(text: &[u8], at: usize) -> Lengths
     requires { ⌜ at ≤ length (now text) ⌝ }
     ensures { λ r. ⌜ (r .targets ≤ 520) × (r .lows ≤ 520) × (r .highs ≤ 520) × (r .«safe_lows» ≤ 520) ⌝ }
     ensures { λ r. ⌜ (r .«safe_highs» ≤ 520) × (r .weights ≤ 520) × (r .parents ≤ 1030) × (r .next ≤ length (now (text .entry))) ⌝ }
 {
-    let file = read_unsigned(text, at);
-    let targets = read_length(text, file.next, 520);
+    let targets = read_length(text, at, 520);
     let lows = read_length(text, targets.next, 520);
     let highs = read_length(text, lows.next, 520);
     let safe_lows = read_length(text, highs.next, 520);
     let safe_highs = read_length(text, safe_lows.next, 520);
     let weights = read_length(text, safe_highs.next, 520);
     let parents = read_length(text, weights.next, 1030);
-    ReadCase {
-        file: file.value,
+    Lengths {
         targets: targets.value,
         lows: lows.value,
         highs: highs.value,
@@ -128,6 +137,33 @@ pub fn read_write(text: &[u8], at: usize) -> WriteCase
     }
 }
 
+// The fourteen numbers from `at` on.
+pub fn read_field_case(text: &[u8], at: usize) -> FieldCase
+    requires { ⌜ at ≤ length (now text) ⌝ }
+    ensures { λ r. ⌜ (r .lengths .targets ≤ 520) × (r .lengths .lows ≤ 520) × (r .lengths .highs ≤ 520) ⌝ }
+    ensures { λ r. ⌜ (r .lengths .«safe_lows» ≤ 520) × (r .lengths .«safe_highs» ≤ 520) × (r .lengths .weights ≤ 520) ⌝ }
+    ensures { λ r. ⌜ (r .lengths .parents ≤ 1030) × (r .buffer ≤ 20000) × (r .next ≤ length (now (text .entry))) ⌝ }
+    ensures { λ r. ⌜ (r .rule .step ≤ 4294967295) × (0 < r .rule .modulus) × (r .rule .modulus ≤ 4294967296) ⌝ }
+{
+    let cells = read_unsigned(text, at);
+    let nodes = read_unsigned(text, cells.next);
+    let total = read_unsigned(text, nodes.next);
+    let lengths = read_lengths(text, total.next);
+    let buffer = read_length(text, lengths.next, 20000);
+    let first = read_unsigned(text, buffer.next);
+    let step = read_unsigned(text, first.next);
+    let modulus = read_unsigned(text, step.next);
+    FieldCase {
+        cells: index(cells.value),
+        nodes: index(nodes.value),
+        total: word(total.value),
+        lengths,
+        buffer: buffer.value,
+        rule: rule_of(first.value, step.value, modulus.value),
+        next: modulus.next,
+    }
+}
+
 // What is left of a number, divided by a modulus.
 fn left(x: u64, modulus: u64) -> u64
     requires { ⌜ 0 < modulus ⌝ }
@@ -136,7 +172,19 @@ fn left(x: u64, modulus: u64) -> u64
     x % modulus
 }
 
-// Fills a list with the masses of a rule.
+// The rule with first + j.
+fn rule_from(rule: Rule, j: u64) -> Rule
+    requires { ⌜ (rule .step ≤ 4294967295) × (0 < rule .modulus) × (rule .modulus ≤ 4294967296) × (j < 7) ⌝ }
+    ensures { λ r. ⌜ (r .step ≤ 4294967295) × (0 < r .modulus) × (r .modulus ≤ 4294967296) ⌝ }
+{
+    Rule {
+        first: left(rule.first, rule.modulus) + j,
+        step: rule.step,
+        modulus: rule.modulus,
+    }
+}
+
+// Fills a list with the numbers of a rule.
 pub fn fill(rule: Rule, xs: &mut [u32])
     requires { ⌜ (rule .step ≤ 4294967295) × (0 < rule .modulus) × (rule .modulus ≤ 4294967296) ⌝ }
 {
@@ -147,4 +195,46 @@ pub fn fill(rule: Rule, xs: &mut [u32])
         mass = left(mass + rule.step, rule.modulus);
         i += 1;
     }
+}
+
+// The same for a list of targets: each number is the word of its target in two's complement.
+pub fn fill_targets(rule: Rule, xs: &mut [i32])
+    requires { ⌜ (rule .step ≤ 4294967295) × (0 < rule .modulus) × (rule .modulus ≤ 4294967296) ⌝ }
+{
+    let mut target = left(rule.first, rule.modulus);
+    let mut i: usize = 0;
+    while i < xs.len() {
+        xs[i] = word_signed(target as u32);
+        target = left(target + rule.step, rule.modulus);
+        i += 1;
+    }
+}
+
+// Fills list j of a field by the rule with first + j.
+fn fill_from(rule: Rule, j: u64, xs: &mut [u32])
+    requires { ⌜ (rule .step ≤ 4294967295) × (0 < rule .modulus) × (rule .modulus ≤ 4294967296) × (j < 7) ⌝ }
+{
+    fill(rule_from(rule, j), xs);
+}
+
+// Fills the seven lists of a field.
+pub fn fill_lists(
+    rule: Rule,
+    targets: &mut [i32],
+    lows: &mut [u32],
+    highs: &mut [u32],
+    safe_lows: &mut [u32],
+    safe_highs: &mut [u32],
+    weights: &mut [u32],
+    parents: &mut [u32],
+)
+    requires { ⌜ (rule .step ≤ 4294967295) × (0 < rule .modulus) × (rule .modulus ≤ 4294967296) ⌝ }
+{
+    fill_targets(rule, targets);
+    fill_from(rule, 1, lows);
+    fill_from(rule, 2, highs);
+    fill_from(rule, 3, safe_lows);
+    fill_from(rule, 4, safe_highs);
+    fill_from(rule, 5, weights);
+    fill_from(rule, 6, parents);
 }

@@ -2,8 +2,10 @@
 // it 31 times what it was, and the entry, modulo 4294967291. A target counts as its word in two's complement.
 ghost use Prim.Native.Nat.{_<_, _≤_};
 use blocks::words::signed_word;
+use files_spec::AnswerRead;
 use files_spec::AnswerWritten;
 use files_spec::FieldRead;
+use files_spec::FieldWritten;
 use libc::STDOUT_FILENO;
 use numbers::arith::stored_index;
 use test_support::output::print_named;
@@ -70,7 +72,7 @@ pub fn print_bytes(xs: &[u8]) {
     print_number(check_bytes(xs));
 }
 
-// What reading answered: n, m and M, or the refusal.
+// What reading a field answered: n, m and M, or the refusal.
 pub fn print_read(answer: FieldRead) {
     match answer {
         FieldRead::Read {
@@ -86,11 +88,31 @@ pub fn print_read(answer: FieldRead) {
     }
 }
 
-// What writing answered: the length of the file, or the refusal.
+// What reading an answer answered: n, the outcome, M and the change, or the refusal.
+pub fn print_answer(answer: AnswerRead) {
+    match answer {
+        AnswerRead::Read { cells, repair } => {
+            print_named(b"read", stored_index(cells));
+            print_number(wide(repair.outcome));
+            print_number(wide(repair.total));
+            print_number(repair.change);
+        }
+        AnswerRead::Refused { number, place } => print_refusal(number, place),
+    }
+}
+
+// What writing answered, an answer or a field: the length of the file, or the refusal.
 pub fn print_written(answer: AnswerWritten) {
     match answer {
         AnswerWritten::Bytes(length) => print_named(b"bytes", stored_index(length)),
         AnswerWritten::Refused { number, place } => print_refusal(number, place),
+    }
+}
+
+pub fn print_field(answer: FieldWritten) {
+    match answer {
+        FieldWritten::Bytes(length) => print_named(b"bytes", stored_index(length)),
+        FieldWritten::Refused { number, place } => print_refusal(number, place),
     }
 }
 

@@ -38,10 +38,10 @@ use Rattle.legzhuro_c.specs.Calls.{returned, SplitReturns, openCallVerdi
 -- ---- what a verdict makes of the return value and of a lent list
 
 module _ {v : Checked} where
-  returned-pass : {r : ℕ} → v ≡ Pass → r ≡ 0 → r ≡ returned v
+  pub returned-pass : {r : ℕ} → v ≡ Pass → r ≡ 0 → r ≡ returned v
   returned-pass e z = z ∙ ap returned (sym e)
 
-  returned-fail : {r number place : ℕ} → v ≡ Fail number place → r ≡ number + place * 2 ^ 32 → r ≡ returned v
+  pub returned-fail : {r number place : ℕ} → v ≡ Fail number place → r ≡ number + place * 2 ^ 32 → r ≡ returned v
   returned-fail e z = z ∙ ap returned (sym e)
 
 pub after-by : {X : Type 0} {v w : Checked} (new old : X) → v ≡ w → after v new old ≡ after w new old

@@ -2,4 +2,5 @@ pub mod CallLaws
 pub mod FileCallLaws
 pub mod AnswerLaws
 pub mod OwnLaws
+pub mod DeskLaws
 pub mod RunLaws

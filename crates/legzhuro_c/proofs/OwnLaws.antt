@@ -81,7 +81,7 @@ one-word (k ∷ ks) t n o =
     (λ q. one-word ks (and-second (ltb 0 k && ltb k (2 ^ 32)) (inWords ks) t) n q) o
 
 -- so a verdict whose rules have these numbers is numbered: `numbered ns d w refl`
-numbered : {v : Checked} {rs : List Rule} (ns : List ℕ) → DecidesAll v rs → RefuseWith rs ns → inWords ns ≡ true → Numbered v
+pub numbered : {v : Checked} {rs : List Rule} (ns : List ℕ) → DecidesAll v rs → RefuseWith rs ns → inWords ns ≡ true → Numbered v
 numbered ns d w t n p e = one-word ns t n (w n .0 (fails-number d e))
 
 -- ---- Split

@@ -1,13 +1,17 @@
-// The calls from C, a static library. `include/legzhuro.h` documents them. Public: the six functions here; what they share is in `returns`
+// The calls from C, a static library. `include/legzhuro.h` documents them. Public: the eight functions here; what they share is in `returns`
 // and the work of the file call in `whole`. Relies on every operation and on `repair_file` and `numbers`.
 ghost use Rattle.caas_spec.specs.Operation.{splitCall};
 ghost use Rattle.qlt_spec.specs.Field.{lists};
 ghost use Rattle.kept_spec.specs.Step.{stepCall};
+ghost use Rattle.files_spec.specs.WriteField.{fieldWriteCall};
 ghost use Rattle.legzhuro_c.specs.Calls.{ReconstructReturns, SplitReturns, OpenReturns, StepReturns, ImportReturns, ExportReturns};
+ghost use Rattle.legzhuro_c.specs.FileCalls.{WriteFieldReturns, ReadAnswerReturns};
 use caas_spec::SplitAnswer;
 use doubles_spec::CellDoubles;
 use doubles_spec::Exported;
 use doubles_spec::Imported;
+use files_spec::AnswerRead;
+use files_spec::FieldWritten;
 use kept_spec::Opened;
 use kept_spec::Stepped;
 use numbers::Checked;
@@ -173,5 +177,59 @@ pub extern "C" fn legzhuro_export(mass: u32, scale: u32, value: &mut [f64]) -> u
     match doubles::export(mass, scale) {
         Exported::Double(x) => returns::put_double(x, value),
         Exported::Refused { number, place } => returns::refusal(number, place),
+    }
+}
+
+// Write a field file.
+#[no_mangle]
+pub extern "C" fn legzhuro_write_field(
+    cells: usize,
+    nodes: usize,
+    total: u32,
+    targets: &[i32],
+    lows: &[u32],
+    highs: &[u32],
+    safe_lows: &[u32],
+    safe_highs: &[u32],
+    weights: &[u32],
+    parents: &[u32],
+    buffer: &mut [u8],
+) -> u64
+    ensures { λ r.
+        ⌜ WriteFieldReturns
+        (fieldWriteCall cells nodes total
+        (lists (now (targets .entry)) (now (lows .entry)) (now (highs .entry)) (now («safe_lows» .entry)) (now («safe_highs» .entry))
+        (now (weights .entry)) (now (parents .entry)))
+        (now (buffer .entry))) r (now (buffer .exit)) ⌝ }
+{
+    let written = field_file::write_field(
+        cells,
+        nodes,
+        total,
+        targets,
+        lows,
+        highs,
+        safe_lows,
+        safe_highs,
+        weights,
+        parents,
+        buffer,
+    );
+    match written {
+        FieldWritten::Bytes(_) => 0,
+        FieldWritten::Refused { number, place } => returns::refusal(number, place),
+    }
+}
+
+// Read an answer: answer[0] is the number of cells, answer[1] the outcome, answer[2] the total, answer[3] the change.
+#[no_mangle]
+pub extern "C" fn legzhuro_read_answer(file: &[u8], masses: &mut [u32], answer: &mut [u64]) -> u64
+    ensures { λ r.
+        ⌜ ReadAnswerReturns (now (file .entry)) (now (masses .entry)) (now (answer .entry)) r (now (masses .exit)) (now (answer .exit)) ⌝ }
+{
+    let room = returns::answer_room(masses.len(), answer.len());
+    match answer_file::read_answer(file, &mut masses[0..room]) {
+        AnswerRead::Read { cells, repair } => returns::put_answer(cells, repair, answer),
+        AnswerRead::Refused { number, place } => returns::refusal(number, place),
     }
 }

@@ -7,6 +7,7 @@ ghost use Rattle.numbers.specs.Lists.{written};
 ghost use Rattle.numbers.specs.Checks.{first, checkCount, checkLong};
 ghost use Rattle.qlt_spec.specs.Checks.{checkNodes};
 ghost use Rattle.legzhuro_c.specs.Calls.{repairWords, unitsList};
+ghost use Rattle.legzhuro_c.specs.FileCalls.{answerRoom, repairedWords};
 use doubles_spec::CellUnits;
 use field_checks::shape::check_nodes;
 use numbers::Checked;
@@ -32,6 +33,13 @@ pub fn step_shape(cells: usize, nodes: usize, answer: usize) -> Checked
     )
 }
 
+// The room for masses that a reading finds: none if the list for its values is too short.
+pub fn answer_room(masses: usize, answer: usize) -> usize
+    ensures { λ r. ⌜ r ≡ answerRoom masses answer ⌝ }
+{
+    if 4 <= answer { masses } else { 0 }
+}
+
 // Each of these puts the values of an accepted call and returns 0.
 pub fn put_total(total: u32, answer: &mut [u64]) -> u64
     requires { ⌜ 1 ≤ length (now answer) ⌝ }
@@ -48,6 +56,18 @@ pub fn put_repair(repair: Repair, answer: &mut [u64]) -> u64
     answer[0] = repair.outcome as u64;
     answer[1] = repair.total as u64;
     answer[2] = repair.change;
+    0
+}
+
+pub fn put_answer(cells: usize, repair: Repair, answer: &mut [u64]) -> u64
+    requires { ⌜ 4 ≤ length (now answer) ⌝ }
+    ensures { λ r.
+        ⌜ (r ≡ 0) × (now (answer .exit) ≡ written (now (answer .entry)) 0 (repairedWords (record { cells = cells; repair = repair }))) ⌝ }
+{
+    answer[0] = cells as u64;
+    answer[1] = repair.outcome as u64;
+    answer[2] = repair.total as u64;
+    answer[3] = repair.change;
     0
 }
 

@@ -1,10 +1,10 @@
 -- Laws of parts of lists and of written parts, for elements of any type. Assumes nothing.
 use mathlib.Core.Path.{_≡_, refl, sym, ap, _∙_}
-use mathlib.Core.List.{List, [], _∷_, _++_, append-assoc}
+use mathlib.Core.List.{List, [], _∷_, _++_, append-assoc, append-nil}
 use Prim.Native.Nat.{ℕ, zero, suc, _+_, _-_, _≤_, _<_, min}
 use native.Mathlib.Nat.{add-zero, sub-zero, zero-sub, suc-sub-suc, zero-min, min-zero, suc-min-suc}
 use native.Mathlib.Omega.{arith}
-use lib.ListN.{length, getD, take, drop, length-append, length-drop, take-append-drop}
+use lib.ListN.{length, getD, take, drop, length-append, length-drop, drop-of-length-le, take-append-drop}
 use lib.Seq.{length-take-le, take-nil, take-at, drop-append-add, drop-drop, getD-append-add, getD-take, getD-drop, sets, sets-eq}
 use Rattle.numbers.specs.Lists.{written}
 
@@ -57,6 +57,11 @@ module _ {ℓ} {X : Type ℓ} where
   unfolding written
   front-written l xs n e = take-at xs (drop (0 + length xs) l) n e
 
+  -- a list written over itself
+  pub written-own : (l : List X) → written l 0 l ≡ l
+  unfolding written
+  written-own l = ap (λ x. l ++ x) (drop-of-length-le l {i = 0 + length l} (omega arith)) ∙ append-nil l
+
   -- stores in a row
   pub sets-written : (vs l : List X) (from : ℕ) → from + length vs ≤ length l → sets l from vs ≡ written l from vs
   unfolding written
@@ -82,6 +87,18 @@ module _ {ℓ} {X : Type ℓ} where
       ap (λ (l : List X). written l end b) (sym (append-assoc (take from d) a r))
       ∙ written-seam (take from d ++ a) r b end n
       ∙ rw (drop-drop, ← e, m) (simp append-assoc)
+
+  -- what is written at the front of a part that starts the list, as the part is put back
+  pub part-written : (k : ℕ) (l vs : List X) → length vs ≤ k → written (take k l) 0 vs ++ drop k l ≡ written l 0 vs
+  unfolding written
+  part-written k l vs h =
+      let n : ℕ = 0 + length vs in
+      let e : k ≡ n + (k - n) = omega arith in
+      append-assoc vs (drop n (take k l)) (drop k l)
+      ∙ ap (λ x. vs ++ x)
+      (ap (λ x. x ++ drop k l) (drop-take n k l)
+      ∙ ap (λ x. take (k - n) (drop n l) ++ x) (ap (λ i. drop i l) e ∙ sym (drop-drop (k - n) n l))
+      ∙ take-append-drop (k - n) (drop n l))
 
   -- a part lent as `&mut l[from..end]` and filled with vs, as it is put back
   pub put-back : (from end : ℕ) (l vs : List X) → end ≡ from + length vs → take from l ++ (vs ++ drop (end - from) (drop from l)) ≡ written l from vs

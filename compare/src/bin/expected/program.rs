@@ -1,4 +1,4 @@
-//! The files of a test program: its input, its field files and its stored output.
+//! The files of a test program: its input, its field files and answer files, and its stored output.
 
 use std::path::{Path, PathBuf};
 
@@ -27,9 +27,9 @@ impl Program {
         input
     }
 
-    /// The first bytes, up to `most`, of the field file whose name has the last three digits of the number; nothing if it is missing.
-    pub fn field_file(&self, number: u64, most: usize) -> Option<Vec<u8>> {
-        let mut file = std::fs::read(self.folder.join(format!("data/{:03}.field", number % 1000))).ok()?;
+    /// The first bytes, up to `most`, of the file of a kind whose name has the last three digits of the number; nothing if it is missing.
+    pub fn data_file(&self, number: u64, kind: &str, most: usize) -> Option<Vec<u8>> {
+        let mut file = std::fs::read(self.folder.join(format!("data/{:03}.{kind}", number % 1000))).ok()?;
         file.truncate(most);
         Some(file)
     }

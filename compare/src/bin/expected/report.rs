@@ -19,9 +19,9 @@ fn text(workspace: &mut FileWorkspace, file: &[u8], room: usize) -> String {
 
 pub fn expected(program: &Program) -> String {
     let mut workspace = FileWorkspace::default();
-    let files = (0..1000).map_while(|number| program.field_file(number, MAX_FILE));
+    let files = (0..1000).map_while(|number| program.data_file(number, "field", MAX_FILE));
     let mut output: String = files.map(|file| text(&mut workspace, &file, MAX_TEXT)).collect();
-    let first = program.field_file(0, MAX_FILE).unwrap_or_default();
+    let first = program.data_file(0, "field", MAX_FILE).unwrap_or_default();
     output += &text(&mut workspace, &first, MAX_TEXT - 1);
     output
 }

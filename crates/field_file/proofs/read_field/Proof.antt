@@ -2,6 +2,7 @@
 use mathlib.Core.Path.{_≡_, sym, ap, _∙_}
 use mathlib.Core.List.{List, [], _∷_}
 use Prim.Native.Nat.{ℕ}
+use native.Mathlib.Omega.{arith}
 use Rattle.numbers.specs.declared.Checked.the-variants.{Pass}
 use Rattle.numbers.specs.Checks.{first}
 use Rattle.numbers.proofs.CheckLaws.{both-first}
@@ -64,7 +65,7 @@ same-length-7 : tie.Need-same-length-7
 same-length-7 c = search needs
 
 returns : tie.Need-returns
-returns c = by-verdict (verdict-is (c .before .before .before .before .before .before .before .before .before .before .before .before .before .before .before .before .before .before .before .before .before .before)) (c .answer-by .ensures) (c .before .before .before .before .before .before .before .before .before .before .before .before .before .before .read-by .ensures)
+returns c = by-verdict (λ i. omega (arith, c .before .before .before .before .before .before .before .before .before .before .before .before .before .before .before .before .before .before .before .before .before .before .before .before .before .before .before .before .before .before .before .before .before .before .before .before .before .shared-slice-known .given i)) (verdict-is (c .before .before .before .before .before .before .before .before .before .before .before .before .before .before .before .before .before .before .before .before .before .before)) (c .answer-by .ensures) (c .before .before .before .before .before .before .before .before .before .before .before .before .before .before .read-by .ensures)
 
 pub read-field-spec : {M : Type 1} → statement M
 read-field-spec =

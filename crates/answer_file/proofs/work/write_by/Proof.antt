@@ -1,11 +1,11 @@
 -- `answer_file::work::write_by` meets its contract: a refusal is told as it stands; a verdict that passes says that the file has room, and
--- the file is written.
+-- the file is written. That each value fits its type is known of every argument.
 use mathlib.Core.Path.{_≡_, sym, _∙_, ap}
 use Prim.Native.Nat.{_*_}
 use Rattle.numbers.specs.declared.Checked.the-variants.{Pass}
 use Rattle.numbers.specs.Lists.{written}
 use Rattle.numbers.specs.Checks.{accepted, answered, after}
-use Rattle.files_spec.specs.AnswerFile.{answerBlocks, answerBytes}
+use Rattle.files_spec.specs.AnswerFile.{answerBlocks, answerBytes, AnswerTyped}
 use Rattle.files_spec.specs.WriteAnswer.{WriteCall, writeCall, writeVerdict, WriteFits, writeTells}
 use Rattle.files_spec.proofs.WriteLaws.{write-accepts}
 use borrow.Author.Needs.{needs}
@@ -15,6 +15,11 @@ use Rattle.answer_file.proofs.work.write_by.Tie as tie
 -- all that the call is given
 abbrev call : tie.Start → WriteCall
 call c = writeCall (c .args .cells) (c .args .repair) (c .args .masses .now) (c .args .buffer .now)
+
+typed : (c : tie.After-shared-slice-known) → AnswerTyped (c .before .args .repair) (c .before .args .masses .now)
+typed c =
+    let g = c .before .good .1 .1 .0 .1 .1 in
+    record { outcome-word = g .0 .1; total-word = g .1 .0 .1; change-words = g .1 .1 .0 .1; mass-words = λ i. c .shared-slice-known .given i .fits }
 
 passed : (c : tie.After-enum-told) → writeVerdict (call (c .before .before .before .before)) ≡ Pass
 passed c = sym (c .before .before .before .before .pre) ∙ c .enum-told .given .1
@@ -31,6 +36,7 @@ returns c =
     let w = call (c .before .before .before .before .before) in
     let e = sym (c .before .verdict .given .1) ∙ c .before .before .before .before .before .pre in
     record {
+      typed = typed (c .before .before .before .before);
       answers = ap (λ v. answered v (512 * answerBlocks (w .cells))) e;
       writes = ap (λ v. after v (written (w .buffer) 0 (answerBytes (w .cells) (w .repair) (w .masses))) (w .buffer)) e;
     }
@@ -55,6 +61,7 @@ returns-2 c =
     let w = call (c .before .before .before .before .before .before .before .before .before) in
     let e = sym (passed (c .before .before .before .before .before)) in
     record {
+      typed = typed (c .before .before .before .before .before .before .before .before);
       answers = ap accepted (c .file-length .ensures) ∙ ap (λ v. answered v (512 * answerBlocks (w .cells))) e;
       writes = c .before .before .before .put-answer .ensures ∙ ap (λ v. after v (written (w .buffer) 0 (answerBytes (w .cells) (w .repair) (w .masses))) (w .buffer)) e;
     }

@@ -13,11 +13,11 @@ use Rattle.blocks.proofs.block.put_words.Statement.{statement}
 use Rattle.blocks.proofs.block.put_words.Tie as tie
 
 abbrev Inv-loop : tie.InvT-loop
-Inv-loop block₀ number payload i₀ block i =
-    (i ≤ 126) × (block ≡ wordsBytes i (headWord number payload) ++ drop (4 * i) block₀) × (length block ≡ length block₀)
+Inv-loop block₀ number payload k₀ block k =
+    (k ≤ 126) × (block ≡ wordsBytes k (headWord number payload) ++ drop (4 * k) block₀) × (length block ≡ length block₀)
 
 abbrev μ-loop : tie.MeasureT-loop
-μ-loop block₀ number payload i₀ block i = 126 - i
+μ-loop block₀ number payload k₀ block k = 126 - k
 
 loop-holds : tie.Need-loop-holds Inv-loop μ-loop
 unfolding wordsBytes
@@ -32,8 +32,8 @@ head-word-requires c κs = search needs
 put-word-requires : tie.Need-put-word-requires Inv-loop μ-loop
 put-word-requires c κs = omega arith
 
-add-i : tie.Need-add-i Inv-loop μ-loop
-add-i c = omega arith
+add-k : tie.Need-add-k Inv-loop μ-loop
+add-k c = omega arith
 
 loop-less : tie.Need-loop-less Inv-loop μ-loop
 loop-less c = omega arith
@@ -46,8 +46,8 @@ loop-again c =
     let p = c .before .before .put-word in (
       omega arith,
       p .ensures
-          ∙ ap (λ d. written d (4 * l .i) (wordBytes (x .result))) (l .inv .1)
-          ∙ put-next (headWord (a .number) (a .payload .now)) (l .i) (x .result) (a .block .now) (x .ensures),
+          ∙ ap (λ d. written d (4 * l .k) (wordBytes (x .result))) (l .inv .1)
+          ∙ put-next (headWord (a .number) (a .payload .now)) (l .k) (x .result) (a .block .now) (x .ensures),
       p .kept .0 ∙ l .inv .2,
     )
 
@@ -58,7 +58,7 @@ returns : tie.Need-returns Inv-loop μ-loop
 returns c =
     let l = c .before .loop in
     let a = c .before .before .before .before .args in
-    let e : l .i ≡ 126 = omega arith in
+    let e : l .k ≡ 126 = omega arith in
     l .inv .1 ∙ ap (λ n. wordsBytes n (headWord (a .number) (a .payload .now)) ++ drop (4 * n) (a .block .now)) e
 
 pub put-words-spec : {M : Type 1} → statement M
@@ -71,7 +71,7 @@ put-words-spec =
     mul-put-word
     head-word-requires
     put-word-requires
-    add-i
+    add-k
     loop-less
     loop-again
     same-length
