@@ -1,20 +1,20 @@
 -- Laws of files of blocks: how a file is put together and taken apart, and that every block passes exactly if the file is the bytes of some
 -- words. Assumes nothing.
-use mathlib.Core.Path.{_≡_, refl, sym, ap, ap₂, _∙_}
+use mathlib.Core.Path.{_≡_, refl, sym, ap, ap₂, _∙_, subst}
 use mathlib.Core.Logic.{_↔_}
 use mathlib.Core.List.{List, _++_}
 use Prim.Native.Nat.{ℕ, zero, suc, _+_, _*_, _-_, _%_, _^_, _≤_, _<_, min}
 use native.Mathlib.Numerals.{sub-one}
-use native.Mathlib.Decide.{ℕ-discrete}
+use native.Mathlib.Decide.{decLt, ℕ-discrete}
 use native.Mathlib.Omega.{arith}
 use lib.ListN.{length, take, drop, length-append, length-drop}
 use lib.Seq.{ext-getD, length-take-le, take-add, take-all, take-append-le, drop-append-le, drop-at}
 use Rattle.numbers.specs.declared.Checked.the-variants.{Pass}
-use Rattle.numbers.specs.Lists.{at, listTo, written}
+use Rattle.numbers.specs.Lists.{at, listTo}
 use Rattle.numbers.specs.Checks.{eachFrom, Decides, rule, ruleFor}
 use Rattle.numbers.proofs.TestLaws.{and-means, lt-means, le-means, eq-means}
 use Rattle.numbers.proofs.ListLaws.{length-listTo, getD-listTo}
-use Rattle.numbers.proofs.PartLaws.{take-min, drop-take, written-on}
+use Rattle.numbers.proofs.PartLaws.{take-min, drop-take}
 use Rattle.numbers.proofs.CheckLaws.{decides-for, decides-unless, each-passes}
 use Rattle.blocks.specs.Words.{wordAt, Bytes, Words}
 use Rattle.blocks.specs.Blocks.{blockBytes, fileBytes, blockOf, payloadOf, wordOf, payloadWord, checkBlock, SoundBlock, SpareZero, IsFile}
@@ -42,6 +42,14 @@ later-fits file used u k =
     let t = each-passes (checkBlock file used) 2 (k - 1) in
     (λ e b l h. block-fits file used b (u b) .0 (t .0 e b l (omega arith)), λ f. t .1 (λ b l h. block-fits file used b (u b) .1 (f b l (omega arith))))
 
+-- what holds of block 1 and of each later one holds of each
+pub each-block : (P : ℕ → Type 0) (k : ℕ) → P 1 → ((b : ℕ) → 2 ≤ b → b ≤ k → P b) → (b : ℕ) → 0 < b → b ≤ k → P b
+each-block P k one later b z l = go (decLt b 2)
+  where
+    go : Dec (b < 2) → P b
+    go (yes h) = let e : 1 ≡ b = omega arith in subst P e one
+    go (no h) = later b (omega arith) l
+
 -- ---- the bytes of a file
 
 pub length-fileBytes : (ws : ℕ → List ℕ) (k : ℕ) → length (fileBytes ws k) ≡ 512 * k
@@ -60,12 +68,6 @@ fileBytes-bytes ws (suc k) = bytes-append (fileBytes ws k) (blockBytes (suc k) (
 pub fileBytes-next : (ws : ℕ → List ℕ) (k : ℕ) → fileBytes ws (suc k) ≡ fileBytes ws k ++ blockBytes (suc k) (ws (suc k))
 unfolding fileBytes
 fileBytes-next ws k = refl
-
--- one block more of a file that is written from the front of a list
-pub file-next : (d : List ℕ) (ws : ℕ → List ℕ) (k from b : ℕ) (vs : List ℕ) → from ≡ 512 * k → b ≡ suc k → ws b ≡ vs → written (written d 0 (fileBytes ws k)) from (blockBytes b vs) ≡ written d 0 (fileBytes ws b)
-file-next d ws k from b vs e f g =
-    written-on d (fileBytes ws k) (blockBytes b vs) 0 from (omega arith) (omega (arith, length-fileBytes ws k))
-    ∙ ap (written d 0) (rw (← g, f) (sym (fileBytes-next ws k)))
 
 -- files agree where the words of their blocks do
 pub fileBytes-ext : (v w : ℕ → List ℕ) (k : ℕ) → ((b : ℕ) → 0 < b → b ≤ k → v b ≡ w b) → fileBytes v k ≡ fileBytes w k

@@ -1,15 +1,17 @@
 // For the crates of files: tables of records in the blocks of a file. Each function has its whole contract.
 ghost use mathlib.Core.Path.{_≡_};
-ghost use Prim.Native.Nat.{_+_, _*_, _-_, _/_, _≤_, _<_, _^_};
+ghost use Prim.Native.Nat.{ℕ, _+_, _*_, _-_, _/_, _≤_, _<_, _^_};
 ghost use lib.ListN.{length};
+ghost use lib.Signed.{mag};
 ghost use Rattle.numbers.specs.Sums.{ℕ-adds, sumTo};
-ghost use Rattle.numbers.specs.Lists.{at, listTo, written};
-ghost use Rattle.blocks.specs.Words.{wordSigned};
+ghost use Rattle.numbers.specs.Lists.{at, atℤ, listTo, written};
+ghost use Rattle.blocks.specs.Words.{signedWord, wordSigned};
 ghost use Rattle.blocks.specs.Blocks.{blockBytes};
 ghost use Rattle.blocks.specs.Tables.{tableBlocks, tableUsed, TableFits, tableBytes, tableWord, HasTable, checkTable, listTable, listBlock};
 use crate::block::check_block;
 use crate::block::fill_block;
 use crate::block::payload_word;
+use crate::words::signed_word;
 use crate::words::word_signed;
 use numbers::Checked;
 use numbers::arith::least;
@@ -91,6 +93,19 @@ pub fn read_signed(file: &[u8], table: Table, from: usize, j: usize, n: usize, l
     let mut i: usize = 0;
     while i < n {
         list[i] = word_signed(table_word(file, table, from, j, i));
+        i += 1;
+    }
+}
+
+// The other way: the words of the first n numbers of a signed list, into the front of a list. Each of these numbers has 32 bits.
+pub fn signed_words(list: &[i32], n: usize, words: &mut [u32])
+    requires { ⌜ (n ≤ length (now list)) × (n ≤ length (now words)) ⌝ }
+    ensures { λ _. ⌜ now (words .exit) ≡ written (now (words .entry)) 0 (listTo n (λ i. signedWord (atℤ (now (list .entry)) i))) ⌝ }
+    ensures { λ _. ⌜ ((i : ℕ) → i < n → mag (atℤ (now (list .entry)) i) < 2 ^ 31) ⌝ }
+{
+    let mut i: usize = 0;
+    while i < n {
+        words[i] = signed_word(list[i]);
         i += 1;
     }
 }

@@ -1,26 +1,28 @@
--- Laws for the reader and the writer in code: the lists as they are read, their room and their ranges, and each contract by its verdict.
+-- Laws for the reader and the writer in code: the lists as they are read, the words of the cells, and each contract by its verdict.
 -- Assumes nothing.
-use mathlib.Core.Path.{_≡_, _∙_, ap}
-use mathlib.Core.List.{List, []}
-use Prim.Native.Nat.{ℕ, _+_, _*_, _^_, _≤_, _<_}
-use native.Mathlib.Decide.{decLt}
-use native.Mathlib.Omega.{arith}
-use lib.IntN.{ℤ, pos, negsuc}
-use lib.ListN.{length, List·getD-eq-default}
-use lib.Signed.{mag, _≤ℤ_}
+use mathlib.Core.Path.{_≡_, sym, _∙_, ap}
+use mathlib.Core.List.{List, [], _∷_}
+use Prim.Native.Nat.{ℕ, _+_, _*_, _<_}
+use lib.IntN.{ℤ}
+use lib.ListN.{take}
+use lib.Seq.{getD-take}
 use Rattle.numbers.specs.declared.Checked.{Checked}
-use Rattle.numbers.specs.Lists.{atℤ, listTo, written}
+use Rattle.numbers.specs.declared.Checked.the-variants.{Pass}
+use Rattle.numbers.specs.Lists.{at, atℤ, listTo, written}
 use Rattle.numbers.specs.Checks.{answered, after}
-use Rattle.numbers.proofs.SignedLaws.{parts-le, about}
-use Rattle.blocks.specs.Words.{Bytes, wordSigned}
-use Rattle.blocks.specs.Tables.{tableWord, listTable}
+use Rattle.numbers.proofs.ListLaws.{length-listTo, getD-listTo}
+use Rattle.numbers.proofs.PartLaws.{front-written}
+use Rattle.blocks.specs.Words.{Bytes, signedWord, wordSigned}
+use Rattle.blocks.specs.Tables.{tableWord, tableBytes, listTable}
+use Rattle.blocks.proofs.TableLaws.{tableBytes-ext}
 use Rattle.qlt_spec.specs.Field.{Lists, lists}
 use Rattle.files_spec.specs.declared.FieldRead.{FieldRead}
 use Rattle.files_spec.specs.declared.FieldWritten.{FieldWritten}
-use Rattle.files_spec.specs.FieldFile.{cellBlocks, fieldBlocks, fieldBytes, cellWord, FieldTyped}
-use Rattle.files_spec.specs.ReadField.{Room, fileCells, fileNodes, readVerdict, sizesOf, readTells, fileLists, listsRead, ReadContract}
-use Rattle.files_spec.proofs.FrontLaws.{fronts-typed}
+use Rattle.files_spec.specs.FieldFile.{cellTable, cellBlocks, fieldBlocks, fieldBytes, cellWords, cellWord, FieldTyped}
+use Rattle.files_spec.specs.ReadField.{fileCells, fileNodes, readVerdict, sizesOf, readTells, fileLists, listsRead, ReadContract}
 use Rattle.files_spec.specs.WriteField.{FieldWriteCall, fieldWriteVerdict, fieldWriteTells, fieldOf, FieldWriteContract}
+use Rattle.files_spec.proofs.ReadLaws.{cell-fits}
+use Rattle.field_file.specs.Cells.{sixWords}
 
 -- ---- lists
 
@@ -38,29 +40,17 @@ pub lists-are :
 unfolding fileLists
 lists-are file s p q t h i j k l o r = rw (h, i, j, k, l, o, r, t, p, q)
 
--- lists of cells with room for n have room for fewer, and for no parents
-pub room-less : {n m k : ℕ} {s : Lists} → Room n m s → k ≤ n → Room k 0 (lists (s .targets) (s .lows) (s .highs) (s .safeLows) (s .safeHighs) (s .weights) [])
-room-less r h =
-    record {
-      targets = omega (arith, r .targets);
-      lows = omega (arith, r .lows);
-      highs = omega (arith, r .highs);
-      safeLows = omega (arith, r .safeLows);
-      safeHighs = omega (arith, r .safeHighs);
-      weights = omega (arith, r .weights);
-      parents = omega arith;
-    }
-
--- signed numbers of 32 bits, and so each element of a list of them, which is 0 past the end
-signed-range : (z : ℤ) → mag z < 2 ^ 31 → (negsuc 2147483647 ≤ℤ z) × (z ≤ℤ pos 2147483647)
-signed-range z h = (parts-le {a = negsuc 2147483647} {b = z} (omega (arith, about z)), parts-le {a = z} {b = pos 2147483647} (omega (arith, about z)))
-
-pub signed-ranges : (xs : List ℤ) → ((i : ℕ) → i < length xs → mag (atℤ xs i) < 2 ^ 31) → (i : ℕ) → (negsuc 2147483647 ≤ℤ atℤ xs i) × (atℤ xs i ≤ℤ pos 2147483647)
-signed-ranges xs h i = signed-range (atℤ xs i) (go (decLt i (length xs)))
+-- where the words of the targets stand at the front of a list, the blocks of the six lists are those of the cells
+pub six-cells :
+    (n : ℕ) (s : Lists) (d : List ℕ) {t : List ℕ} → t ≡ written d 0 (listTo n (λ i. signedWord (atℤ (s .targets) i))) → (from q : ℕ)
+    → tableBytes cellTable n (λ i j. at (sixWords t (s .lows) (s .highs) (s .safeLows) (s .safeHighs) (s .weights) i) j) from q
+    ≡ tableBytes cellTable n (λ i j. at (cellWords s i) j) from q
+six-cells n s d {t} e =
+    tableBytes-ext cellTable cell-fits n _ _
+    (λ i j l h. ap (λ x. at (x ∷ at (s .lows) i ∷ at (s .highs) i ∷ at (s .safeLows) i ∷ at (s .safeHighs) i ∷ at (s .weights) i ∷ []) j) (word i l))
   where
-    go : Dec (i < length xs) → mag (atℤ xs i) < 2 ^ 31
-    go (yes l) = h i l
-    go (no l) = rw (List·getD-eq-default xs (pos 0) {n = i} (omega arith)) (omega arith)
+    word : (i : ℕ) → i < n → at t i ≡ signedWord (atℤ (s .targets) i)
+    word i l = sym (getD-take n t i 0 l) ∙ ap (λ x. at x i) (ap (take n) e ∙ front-written d _ n (length-listTo n _)) ∙ getD-listTo n _ i 0 l
 
 -- ---- what is left and told goes by the verdict
 
@@ -76,14 +66,14 @@ by-verdict {file} {s} b e a w =
 
 pub by-write-verdict :
     {c : FieldWriteCall} {v : Checked} {r : FieldWritten} {d : List ℕ}
-    → FieldTyped (c .lists) (c .total)
+    → (fieldWriteVerdict c ≡ Pass → FieldTyped (fieldOf c) (c .total))
     → v ≡ fieldWriteVerdict c
     → fieldWriteTells r ≡ answered v (512 * fieldBlocks (c .cells) (c .nodes))
     → d ≡ after v (written (c .buffer) 0 (fieldBytes (fieldOf c) (c .total))) (c .buffer)
     → FieldWriteContract c r d
 by-write-verdict {c} t e a w =
     record {
-      typed = λ p. fronts-typed (c .cells) (c .nodes) (c .lists) (c .total) t;
+      typed = t;
       answers = a ∙ ap (λ x. answered x (512 * fieldBlocks (c .cells) (c .nodes))) e;
       writes = w ∙ ap (λ x. after x (written (c .buffer) 0 (fieldBytes (fieldOf c) (c .total))) (c .buffer)) e;
     }

@@ -2,8 +2,7 @@
 ghost use mathlib.Core.Path.{_≡_};
 ghost use mathlib.Core.List.{[]};
 ghost use Prim.Native.Nat.{ℕ, _+_, _*_, _-_, _≤_, _<_, _^_};
-ghost use lib.IntN.{pos, negsuc};
-ghost use lib.Signed.{_≤ℤ_};
+ghost use lib.Signed.{mag};
 ghost use lib.ListN.{length};
 ghost use Rattle.numbers.specs.Lists.{at, atℤ, written};
 ghost use Rattle.blocks.specs.Blocks.{blockBytes};
@@ -11,26 +10,16 @@ ghost use Rattle.blocks.specs.Tables.{tableUsed, tableWords, tableBytes};
 ghost use Rattle.qlt_spec.specs.Field.{lists};
 ghost use Rattle.files_spec.specs.FieldFile.{cellTable, cellBlocks, cellWords};
 ghost use Rattle.files_spec.specs.ReadField.{Room};
+ghost use Rattle.field_file.specs.Cells.{sixWords, SixLong};
 use blocks::block::fill_block;
+use blocks::tables::signed_words;
 use blocks::tables::table_blocks;
 use blocks::tables::table_used;
-use blocks::words::signed_word;
 use files_spec::CELLS;
 
-// Reads each target and leaves nothing: the range of signed numbers in a list is known where they are read, that of others by their type.
-pub fn see_targets(targets: &[i32])
-    ensures { λ _. ⌜ ((i : ℕ) → (negsuc 2147483647 ≤ℤ atℤ (now (targets .entry)) i) × (atℤ (now (targets .entry)) i ≤ℤ pos 2147483647)) ⌝ }
-{
-    let mut i: usize = 0;
-    while i < targets.len() {
-        let target = targets[i];
-        i += 1;
-    }
-}
-
-// Word j of cell i.
+// Word j of cell i, the targets as words.
 fn cell_word(
-    targets: &[i32],
+    target_words: &[u32],
     lows: &[u32],
     highs: &[u32],
     safe_lows: &[u32],
@@ -39,13 +28,13 @@ fn cell_word(
     i: usize,
     j: usize,
 ) -> u32
-    requires { ⌜ Room (i + 1) 0 (lists (now targets) (now lows) (now highs) (now «safe_lows») (now «safe_highs») (now weights) []) × (j < 6) ⌝ }
+    requires { ⌜ SixLong (i + 1) (now «target_words») (now lows) (now highs) (now «safe_lows») (now «safe_highs») (now weights) × (j < 6) ⌝ }
     ensures { λ r.
-        ⌜ r ≡ at (cellWords (lists (now (targets .entry)) (now (lows .entry)) (now (highs .entry)) (now («safe_lows» .entry)) (now («safe_highs» .entry))
-        (now (weights .entry)) []) i) j ⌝ }
+        ⌜ r ≡ at (sixWords (now («target_words» .entry)) (now (lows .entry)) (now (highs .entry)) (now («safe_lows» .entry)) (now («safe_highs» .entry))
+        (now (weights .entry)) i) j ⌝ }
 {
     if j == 0 {
-        return signed_word(targets[i]);
+        return target_words[i];
     }
     if j == 1 {
         return lows[i];
@@ -65,7 +54,7 @@ fn cell_word(
 // The words of the k-th block of n cells, to the front of a list; returns how many.
 fn fill_cells(
     words: &mut [u32],
-    targets: &[i32],
+    target_words: &[u32],
     lows: &[u32],
     highs: &[u32],
     safe_lows: &[u32],
@@ -75,18 +64,18 @@ fn fill_cells(
     k: usize,
 ) -> usize
     requires { ⌜ (length (now words) ≡ 120) × (20 * k ≤ n) ×
-        Room n 0 (lists (now targets) (now lows) (now highs) (now «safe_lows») (now «safe_highs») (now weights) []) ⌝ }
+        SixLong n (now «target_words») (now lows) (now highs) (now «safe_lows») (now «safe_highs») (now weights) ⌝ }
     ensures { λ r.
         ⌜ (r ≡ tableUsed cellTable n k) × (now (words .exit) ≡ written (now (words .entry)) 0
         (tableWords cellTable n
-        (λ i j. at (cellWords (lists (now (targets .entry)) (now (lows .entry)) (now (highs .entry)) (now («safe_lows» .entry))
-        (now («safe_highs» .entry)) (now (weights .entry)) []) i) j) k)) ⌝ }
+        (λ i j. at (sixWords (now («target_words» .entry)) (now (lows .entry)) (now (highs .entry)) (now («safe_lows» .entry))
+        (now («safe_highs» .entry)) (now (weights .entry)) i) j) k)) ⌝ }
 {
     let used = table_used(CELLS, n, k);
     let mut x: usize = 0;
     while x < used {
         words[x] = cell_word(
-            targets,
+            target_words,
             lows,
             highs,
             safe_lows,
@@ -105,7 +94,7 @@ fn put_cell_block(
     buffer: &mut [u8],
     from: usize,
     words: &mut [u32],
-    targets: &[i32],
+    target_words: &[u32],
     lows: &[u32],
     highs: &[u32],
     safe_lows: &[u32],
@@ -115,17 +104,17 @@ fn put_cell_block(
     k: usize,
 )
     requires { ⌜ (0 < from) × (from + k < 2 ^ 32) × (20 * k < n) × (512 * (from + k) ≤ length (now buffer)) × (length (now words) ≡ 120) ×
-        Room n 0 (lists (now targets) (now lows) (now highs) (now «safe_lows») (now «safe_highs») (now weights) []) ⌝ }
+        SixLong n (now «target_words») (now lows) (now highs) (now «safe_lows») (now «safe_highs») (now weights) ⌝ }
     ensures { λ _.
         ⌜ now (buffer .exit) ≡ written (now (buffer .entry)) (512 * (from + k - 1))
         (blockBytes (from + k)
         (tableWords cellTable n
-        (λ i j. at (cellWords (lists (now (targets .entry)) (now (lows .entry)) (now (highs .entry)) (now («safe_lows» .entry))
-        (now («safe_highs» .entry)) (now (weights .entry)) []) i) j) k)) ⌝ }
+        (λ i j. at (sixWords (now («target_words» .entry)) (now (lows .entry)) (now (highs .entry)) (now («safe_lows» .entry))
+        (now («safe_highs» .entry)) (now (weights .entry)) i) j) k)) ⌝ }
 {
     let used = fill_cells(
         words,
-        targets,
+        target_words,
         lows,
         highs,
         safe_lows,
@@ -145,7 +134,7 @@ fn put_blocks(
     buffer: &mut [u8],
     from: usize,
     words: &mut [u32],
-    targets: &[i32],
+    target_words: &[u32],
     lows: &[u32],
     highs: &[u32],
     safe_lows: &[u32],
@@ -154,13 +143,12 @@ fn put_blocks(
     n: usize,
 )
     requires { ⌜ (0 < from) × (n < 2 ^ 32) × (from + cellBlocks n ≤ 2 ^ 32) × (512 * (from - 1 + cellBlocks n) ≤ length (now buffer)) ×
-        (length (now words) ≡ 120) ×
-        Room n 0 (lists (now targets) (now lows) (now highs) (now «safe_lows») (now «safe_highs») (now weights) []) ⌝ }
+        (length (now words) ≡ 120) × SixLong n (now «target_words») (now lows) (now highs) (now «safe_lows») (now «safe_highs») (now weights) ⌝ }
     ensures { λ _.
         ⌜ now (buffer .exit) ≡ written (now (buffer .entry)) (512 * (from - 1))
         (tableBytes cellTable n
-        (λ i j. at (cellWords (lists (now (targets .entry)) (now (lows .entry)) (now (highs .entry)) (now («safe_lows» .entry))
-        (now («safe_highs» .entry)) (now (weights .entry)) []) i) j) from (cellBlocks n)) ⌝ }
+        (λ i j. at (sixWords (now («target_words» .entry)) (now (lows .entry)) (now (highs .entry)) (now («safe_lows» .entry))
+        (now («safe_highs» .entry)) (now (weights .entry)) i) j) from (cellBlocks n)) ⌝ }
 {
     let count = table_blocks(CELLS, n);
     let mut k: usize = 0;
@@ -169,7 +157,7 @@ fn put_blocks(
             buffer,
             from,
             words,
-            targets,
+            target_words,
             lows,
             highs,
             safe_lows,
@@ -182,7 +170,46 @@ fn put_blocks(
     }
 }
 
-// The same, with a list of its own for the words of a block.
+// The same for targets as they are, with lists for their words and for those of a block. What these hold is of no account.
+fn put_signed(
+    buffer: &mut [u8],
+    from: usize,
+    words: &mut [u32],
+    target_words: &mut [u32],
+    targets: &[i32],
+    lows: &[u32],
+    highs: &[u32],
+    safe_lows: &[u32],
+    safe_highs: &[u32],
+    weights: &[u32],
+    n: usize,
+)
+    requires { ⌜ (0 < from) × (n ≤ 512) × (from + cellBlocks n ≤ 2 ^ 32) × (512 * (from - 1 + cellBlocks n) ≤ length (now buffer)) ×
+        (length (now words) ≡ 120) × (length (now «target_words») ≡ 512) ×
+        Room n 0 (lists (now targets) (now lows) (now highs) (now «safe_lows») (now «safe_highs») (now weights) []) ⌝ }
+    ensures { λ _.
+        ⌜ now (buffer .exit) ≡ written (now (buffer .entry)) (512 * (from - 1))
+        (tableBytes cellTable n
+        (λ i j. at (cellWords (lists (now (targets .entry)) (now (lows .entry)) (now (highs .entry)) (now («safe_lows» .entry))
+        (now («safe_highs» .entry)) (now (weights .entry)) []) i) j) from (cellBlocks n)) ⌝ }
+    ensures { λ _. ⌜ ((i : ℕ) → i < n → mag (atℤ (now (targets .entry)) i) < 2 ^ 31) ⌝ }
+{
+    signed_words(targets, n, target_words);
+    put_blocks(
+        buffer,
+        from,
+        words,
+        target_words,
+        lows,
+        highs,
+        safe_lows,
+        safe_highs,
+        weights,
+        n,
+    );
+}
+
+// The same with lists of its own; each target that is written has 32 bits.
 pub fn put_cells(
     buffer: &mut [u8],
     from: usize,
@@ -194,19 +221,22 @@ pub fn put_cells(
     weights: &[u32],
     n: usize,
 )
-    requires { ⌜ (0 < from) × (n < 2 ^ 32) × (from + cellBlocks n ≤ 2 ^ 32) × (512 * (from - 1 + cellBlocks n) ≤ length (now buffer)) ×
+    requires { ⌜ (0 < from) × (n ≤ 512) × (from + cellBlocks n ≤ 2 ^ 32) × (512 * (from - 1 + cellBlocks n) ≤ length (now buffer)) ×
         Room n 0 (lists (now targets) (now lows) (now highs) (now «safe_lows») (now «safe_highs») (now weights) []) ⌝ }
     ensures { λ _.
         ⌜ now (buffer .exit) ≡ written (now (buffer .entry)) (512 * (from - 1))
         (tableBytes cellTable n
         (λ i j. at (cellWords (lists (now (targets .entry)) (now (lows .entry)) (now (highs .entry)) (now («safe_lows» .entry))
         (now («safe_highs» .entry)) (now (weights .entry)) []) i) j) from (cellBlocks n)) ⌝ }
+    ensures { λ _. ⌜ ((i : ℕ) → i < n → mag (atℤ (now (targets .entry)) i) < 2 ^ 31) ⌝ }
 {
     let mut words = [0u32; 120];
-    put_blocks(
+    let mut target_words = [0u32; 512];
+    put_signed(
         buffer,
         from,
         &mut words,
+        &mut target_words,
         targets,
         lows,
         highs,

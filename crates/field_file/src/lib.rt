@@ -76,7 +76,6 @@ pub fn write_field(
         (now (weights .entry)) (now (parents .entry)))
         (now (buffer .entry))) r (now (buffer .exit)) ⌝ }
 {
-    cells::see_targets(targets);
     let checked = verdict::write_verdict(
         cells,
         nodes,

@@ -2,10 +2,11 @@
 // `payload` hands back. Writing: the blocks of the file.
 ghost use mathlib.Core.Path.{_≡_};
 ghost use mathlib.Core.List.{[], _∷_};
-ghost use Prim.Native.Nat.{_*_, _≤_};
+ghost use Prim.Native.Nat.{ℕ, _*_, _^_, _≤_, _<_};
 ghost use lib.ListN.{length};
+ghost use lib.Signed.{mag};
 ghost use Rattle.numbers.specs.declared.Checked.the-variants.{Pass};
-ghost use Rattle.numbers.specs.Lists.{written};
+ghost use Rattle.numbers.specs.Lists.{atℤ, written};
 ghost use Rattle.numbers.specs.Checks.{answered, after};
 ghost use Rattle.blocks.specs.Blocks.{blockBytes};
 ghost use Rattle.qlt_spec.specs.Field.{lists};
@@ -118,7 +119,7 @@ fn put_head(buffer: &mut [u8], n: usize, m: usize, total: u32)
     fill_block(&mut buffer[0..512], 1, &head);
 }
 
-// The whole file: block 1, the cells, then the parents.
+// The whole file: block 1, the cells, then the parents. Each target that is written has 32 bits.
 fn put_field(
     buffer: &mut [u8],
     n: usize,
@@ -138,6 +139,7 @@ fn put_field(
         ⌜ now (buffer .exit) ≡ written (now (buffer .entry)) 0 (fieldBytes (fronts n m
         (lists (now (targets .entry)) (now (lows .entry)) (now (highs .entry)) (now («safe_lows» .entry)) (now («safe_highs» .entry))
         (now (weights .entry)) (now (parents .entry)))) total) ⌝ }
+    ensures { λ _. ⌜ ((i : ℕ) → i < n → mag (atℤ (now (targets .entry)) i) < 2 ^ 31) ⌝ }
 {
     let after = 2 + table_blocks(CELLS, n);
     put_head(buffer, n, m, total);
@@ -170,15 +172,13 @@ pub fn write_by(
     parents: &[u32],
     buffer: &mut [u8],
 ) -> FieldWritten
-    requires { ⌜ verdict ≡ fieldWriteVerdict
-        (fieldWriteCall cells nodes total
+    requires { ⌜ verdict ≡ fieldWriteVerdict (fieldWriteCall cells nodes total
         (lists (now targets) (now lows) (now highs) (now «safe_lows») (now «safe_highs») (now weights) (now parents)) (now buffer)) ⌝ }
     ensures { λ r. ⌜ fieldWriteTells r ≡ answered verdict (512 * fieldBlocks cells nodes) ⌝ }
-    ensures { λ r.
-        ⌜ now (buffer .exit) ≡ after verdict
-        (written (now (buffer .entry)) 0 (fieldBytes (fronts cells nodes
+    ensures { λ _. ⌜ now (buffer .exit) ≡ after verdict (written (now (buffer .entry)) 0 (fieldBytes (fronts cells nodes
         (lists (now (targets .entry)) (now (lows .entry)) (now (highs .entry)) (now («safe_lows» .entry)) (now («safe_highs» .entry))
         (now (weights .entry)) (now (parents .entry)))) total)) (now (buffer .entry)) ⌝ }
+    ensures { λ _. ⌜ (verdict ≡ Pass → ((i : ℕ) → i < cells → mag (atℤ (now (targets .entry)) i) < 2 ^ 31)) ⌝ }
 {
     if let Checked::Fail { number, place } = verdict {
         return FieldWritten::Refused { number, place };

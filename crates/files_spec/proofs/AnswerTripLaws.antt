@@ -1,10 +1,8 @@
 -- Answer files both ways: a file that is read is the bytes of what it holds, and a file that is written is read back. Assumes nothing.
-use mathlib.Core.Path.{_≡_, refl, sym, _∙_, ap, ap₂, subst}
-use mathlib.Core.Logic.{_↔_}
+use mathlib.Core.Path.{_≡_, refl, sym, _∙_, ap, subst}
 use mathlib.Core.Bool.{Bool, true, false, cond}
-use mathlib.Core.List.{List, [], _∷_}
+use mathlib.Core.List.{List}
 use Prim.Native.Nat.{ℕ, zero, suc, _+_, _*_, _-_, _/_, _%_, _^_, _≤_, _<_}
-use native.Mathlib.Decide.{decLt}
 use native.Mathlib.Omega.{arith}
 use lib.Dec.{leb}
 use lib.ListN.{length, take}
@@ -14,14 +12,14 @@ use Rattle.numbers.specs.Sums.{ℕ-adds, sumTo}
 use Rattle.numbers.specs.Lists.{at, listTo, written, sum}
 use Rattle.numbers.specs.Checks.{accepted, answered, after}
 use Rattle.numbers.proofs.CheckLaws.{answered-accepted}
-use Rattle.numbers.proofs.ListLaws.{length-listTo, getD-listTo}
+use Rattle.numbers.proofs.ListLaws.{getD-listTo}
 use Rattle.numbers.proofs.PartLaws.{front-written, written-own, length-kept}
 use Rattle.blocks.specs.Words.{Bytes, Words}
-use Rattle.blocks.specs.Blocks.{fileBytes, blockOf, payloadWord, SoundBlock, SpareZero, IsFile}
-use Rattle.blocks.specs.Tables.{tableUsed, tableWords, tableWord, listTable}
+use Rattle.blocks.specs.Blocks.{blockOf, payloadWord, SoundBlock, SpareZero, IsFile}
+use Rattle.blocks.specs.Tables.{tableUsed, tableWord, listTable}
 use Rattle.blocks.proofs.WordLaws.{words-listTo}
 use Rattle.blocks.proofs.BlockLaws.{payloadWord-small}
-use Rattle.blocks.proofs.FileLaws.{length-fileBytes, fileBytes-bytes, fileBytes-ext, file-word, file-fits, file-own}
+use Rattle.blocks.proofs.FileLaws.{length-fileBytes, fileBytes-bytes, fileBytes-ext, each-block, file-word, file-fits, file-own}
 use Rattle.blocks.proofs.TableLaws.{length-tableWords, tableWords-small, tableWords-ext, table-back, table-own, list-fits}
 use Rattle.qlt_spec.specs.declared.Repair.{Repair}
 use Rattle.files_spec.specs.AnswerFile.{answerBlocks, answerHead, massBlock, answerWords, answerBytes, answerUsed, massWord, AnswerTyped}
@@ -34,8 +32,7 @@ use Rattle.files_spec.specs.declared.AnswerWritten.{AnswerWritten}
 use Rattle.files_spec.specs.declared.AnswerWritten.the-variants as answer-written
 use Rattle.files_spec.proofs.WriteLaws.{write-accepts, write-tells-injective, sum-part, mass-words}
 use Rattle.files_spec.proofs.BackLaws.{list-back}
-use Rattle.files_spec.proofs.FrontLaws.{words-take}
-use Rattle.files_spec.proofs.ReadAnswerLaws.{answer-used-small, used-masses, masses-sum, length-masses, answer-read-accepts, answer-read-tells-injective, answer-read-done}
+use Rattle.files_spec.proofs.ReadAnswerLaws.{answer-used-small, used-masses, length-masses, answer-read-accepts, answer-read-tells-injective, answer-read-done}
 
 -- ---- what is written is read back
 
@@ -178,27 +175,20 @@ module _ (file : List ℕ) (room : ℕ) (y : Bytes file) (f : AnswerReadFits fil
       ∙ table-own listTable list-fits file 2 N q
 
   words-own : (b : ℕ) → 0 < b → b ≤ answerBlocks N → answerWords N (answerRepair file) (answerMasses file) b ≡ listTo (answerUsed N b) (payloadWord file b)
-  words-own b z l = go (decLt b 2)
+  words-own = each-block (λ b. Own b (answerUsed N b)) (answerBlocks N) (unfold answerUsed in head-own) later
     where
       Own : ℕ → ℕ → Type 0
       Own b u = answerWords N (answerRepair file) (answerMasses file) b ≡ listTo u (payloadWord file b)
 
-      go : Dec (b < 2) → Own b (answerUsed N b)
-      go (yes h) =
-          let e : 1 ≡ b = omega arith in
-          subst (λ x. Own x (answerUsed N x)) e (unfold answerUsed in head-own)
-      go (no h) =
+      later : (b : ℕ) → 2 ≤ b → b ≤ answerBlocks N → Own b (answerUsed N b)
+      later b h l =
           let e : 2 + (b - 2) ≡ b = omega arith in
-          subst (Own b) (sym (used-masses N b (omega arith))) (subst (λ x. Own x (tableUsed listTable N (b - 2))) e (masses-own (b - 2)))
+          subst (Own b) (sym (used-masses N b h)) (subst (λ x. Own x (tableUsed listTable N (b - 2))) e (masses-own (b - 2)))
 
   blocks-fit : (b : ℕ) → 0 < b → b ≤ answerBlocks N → SoundBlock (blockOf file b) b × SpareZero file (answerUsed N b) b
-  blocks-fit b z l = go (decLt b 2)
-    where
-      go : Dec (b < 2) → SoundBlock (blockOf file b) b × SpareZero file (answerUsed N b) b
-      go (yes h) =
-          let e : 1 ≡ b = omega arith in
-          subst (λ x. SoundBlock (blockOf file x) x × SpareZero file (answerUsed N x) x) e (unfold answerUsed in (f .head .sound, f .head .spare))
-      go (no h) = (f .sound b (omega arith) l, f .spare b (omega arith) l)
+  unfolding answerUsed
+  blocks-fit =
+      each-block (λ b. SoundBlock (blockOf file b) b × SpareZero file (answerUsed N b) b) (answerBlocks N) (f .head .sound, f .head .spare) (λ b l j. (f .sound b l j, f .spare b l j))
 
   pub read-same : file ≡ answerBytes N (answerRepair file) (answerMasses file)
   unfolding answerBytes

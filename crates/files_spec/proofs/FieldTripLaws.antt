@@ -1,32 +1,30 @@
 -- Field files both ways: a file that is read is the bytes of the field that it holds, and a file that is written is read back. Assumes
 -- nothing.
 use mathlib.Core.Path.{_≡_, refl, sym, _∙_, ap, ap₂, subst}
-use mathlib.Core.Logic.{_↔_}
-use mathlib.Core.Bool.{Bool, true, false, cond}
-use mathlib.Core.List.{List, [], _∷_}
+use mathlib.Core.List.{List}
 use Prim.Native.Nat.{ℕ, zero, suc, _+_, _*_, _-_, _^_, _≤_, _<_}
 use native.Mathlib.Omega.{arith}
 use native.Mathlib.Decide.{decLt}
 use lib.IntN.{ℤ, pos, negsuc}
 use lib.Signed.{_≤ℤ_}
-use lib.ListN.{length, take, getD, List·getD-eq-default}
-use lib.Seq.{length-take-le, getD-take, take-all}
+use lib.ListN.{length, take, List·getD-eq-default}
+use lib.Seq.{take-all}
 use Rattle.numbers.specs.declared.Checked.the-variants.{Pass}
 use Rattle.numbers.specs.Lists.{at, atℤ, listTo, written}
 use Rattle.numbers.specs.Checks.{accepted, answered, after}
 use Rattle.numbers.proofs.CheckLaws.{answered-accepted}
 use Rattle.numbers.proofs.ListLaws.{length-listTo, getD-listTo}
 use Rattle.numbers.proofs.PartLaws.{front-written, written-own}
-use Rattle.blocks.specs.Words.{Bytes, Words, signedWord, wordSigned}
-use Rattle.blocks.specs.Blocks.{fileBytes, blockOf, payloadWord, SoundBlock, SpareZero, IsFile}
-use Rattle.blocks.specs.Tables.{tableBlocks, tableUsed, tableWords, tableWord, listTable}
+use Rattle.blocks.specs.Words.{Bytes, signedWord, wordSigned}
+use Rattle.blocks.specs.Blocks.{fileBytes, blockOf, payloadWord, SoundBlock, SpareZero}
+use Rattle.blocks.specs.Tables.{tableUsed, tableWords, tableWord, listTable}
 use Rattle.blocks.proofs.WordLaws.{word-signed-back, word-signed-fits, words-listTo}
 use Rattle.blocks.proofs.BlockLaws.{payloadWord-small}
-use Rattle.blocks.proofs.FileLaws.{length-fileBytes, fileBytes-bytes, file-fits, file-own}
+use Rattle.blocks.proofs.FileLaws.{length-fileBytes, fileBytes-bytes, each-block, file-fits, file-own}
 use Rattle.blocks.proofs.TableLaws.{tableWords-ext, table-own, list-fits}
 use Rattle.qlt_spec.specs.Field.{Lists, lists, cells, nodes}
-use Rattle.files_spec.specs.FieldFile.{cellTable, cellBlocks, fieldBlocks, cellWords, cellBlock, parentBlock, fieldWords, fieldBytes, fieldUsed, cellWord, parentWord, fronts, overFronts, FieldTyped}
-use Rattle.files_spec.specs.ReadField.{fileCells, fileNodes, fileTotal, readVerdict, Room, ReadFits, Sizes, sizesOf, readTells, fileLists, ReadContract}
+use Rattle.files_spec.specs.FieldFile.{cellTable, cellBlocks, fieldBlocks, cellWords, fieldWords, fieldBytes, fieldUsed, cellWord, parentWord, fronts, overFronts, FieldTyped}
+use Rattle.files_spec.specs.ReadField.{fileCells, fileNodes, fileTotal, readVerdict, Room, ReadFits, sizesOf, readTells, fileLists, ReadContract}
 use Rattle.files_spec.specs.WriteField.{FieldWriteCall, fieldWriteCall, fieldWriteVerdict, FieldWriteFits, fieldWriteTells, fieldOf, FieldWriteContract}
 use Rattle.files_spec.specs.Stored.{Storable, FieldBack}
 use Rattle.files_spec.specs.Trip.{FieldReading, FieldWriting, FieldTrip}
@@ -34,7 +32,7 @@ use Rattle.files_spec.specs.declared.FieldRead.{FieldRead}
 use Rattle.files_spec.specs.declared.FieldRead.the-variants as field-read
 use Rattle.files_spec.specs.declared.FieldWritten.{FieldWritten}
 use Rattle.files_spec.specs.declared.FieldWritten.the-variants as field-written
-use Rattle.files_spec.proofs.ReadLaws.{cell-fits, used-small, used-cells, used-parents, read-accepts, read-done, read-tells-injective}
+use Rattle.files_spec.proofs.ReadLaws.{cell-fits, used-small, used-cells, used-parents, read-done, read-tells-injective}
 use Rattle.files_spec.proofs.BackLaws.{cells-at, parents-at, cells-back, nodes-back, total-back, field-back}
 use Rattle.files_spec.proofs.FrontLaws.{Sized, held-sized, fronts-sized, over-room, own-room, fronts-over, fronts-own}
 use Rattle.files_spec.proofs.WriteFieldLaws.{field-write-accepts, field-write-tells-injective}
@@ -173,17 +171,14 @@ sized-storable n m f M z t some few room most =
       typed = t;
     }
 
--- ---- a file that is accepted is the bytes of the field that it holds, which a file can hold
+-- ---- a file that is accepted is the bytes of the field that it holds
 
 module _ (file : List ℕ) (s : Lists) (y : Bytes file) (r : ReadFits file s) where
   blocks-fit : (b : ℕ) → 0 < b → b ≤ fieldBlocks (fileCells file) (fileNodes file) → SoundBlock (blockOf file b) b × SpareZero file (fieldUsed (fileCells file) (fileNodes file) b) b
-  blocks-fit b z l = go (decLt b 2)
-    where
-      go : Dec (b < 2) → SoundBlock (blockOf file b) b × SpareZero file (fieldUsed (fileCells file) (fileNodes file) b) b
-      go (yes h) =
-          let e : 1 ≡ b = omega arith in
-          subst (λ x. SoundBlock (blockOf file x) x × SpareZero file (fieldUsed (fileCells file) (fileNodes file) x) x) e (unfold fieldUsed in (r .head .sound, r .head .spare))
-      go (no h) = (r .sound b (omega arith) l, r .spare b (omega arith) l)
+  unfolding fieldUsed
+  blocks-fit =
+      each-block (λ b. SoundBlock (blockOf file b) b × SpareZero file (fieldUsed (fileCells file) (fileNodes file) b) b) (fieldBlocks (fileCells file) (fileNodes file))
+      (r .head .sound, r .head .spare) (λ b l j. (r .sound b l j, r .spare b l j))
 
   few-blocks : fieldBlocks (fileCells file) (fileNodes file) < 2 ^ 32
   few-blocks = omega (arith, r .head .few, r .head .nodes-few)
@@ -195,10 +190,6 @@ module _ (file : List ℕ) (s : Lists) (y : Bytes file) (r : ReadFits file s) wh
       let i = file-fits file (fieldUsed (fileCells file) (fileNodes file)) (fieldBlocks (fileCells file) (fileNodes file)) few-blocks u y (r .head .whole) .0 blocks-fit in
       file-own file (fieldUsed (fileCells file) (fileNodes file)) _ few-blocks u i (fieldWords (fileLists file) (fileTotal file)) (words-own file y (r .head .mark))
       ∙ ap₂ (λ a b. fileBytes (fieldWords (fileLists file) (fileTotal file)) (fieldBlocks a b)) (sym (held-cells file)) (sym (held-nodes file))
-
-  pub read-storable : Storable (fileLists file) (fileTotal file)
-  read-storable =
-      sized-storable (fileCells file) (fileNodes file) (fileLists file) (fileTotal file) (held-sized file) (held-typed file y) (r .head .some) (r .head .few) (r .head .nodes-room) (r .head .nodes-few)
 
 -- ---- the writer, from its contract alone
 

@@ -1,16 +1,17 @@
 -- Lists of a field at the front of longer lists. Assumes nothing.
-use mathlib.Core.Path.{_≡_, refl, sym, _∙_, ap}
+use mathlib.Core.Path.{_≡_}
 use mathlib.Core.List.{List}
-use Prim.Native.Nat.{ℕ, _+_, _^_, _≤_, _<_}
+use Prim.Native.Nat.{ℕ, _^_, _≤_, _<_}
 use native.Mathlib.Decide.{decLt}
 use native.Mathlib.Omega.{arith}
 use lib.IntN.{ℤ, pos, negsuc}
-use lib.Signed.{_≤ℤ_}
-use lib.ListN.{length, take, length-take, getD, List·getD-eq-default}
+use lib.Signed.{mag, _≤ℤ_}
+use lib.ListN.{length, take, length-take, List·getD-eq-default}
 use lib.Seq.{length-take-le, getD-take, take-all}
-use Rattle.numbers.specs.Lists.{at, atℤ, listTo, written}
+use Rattle.numbers.specs.Lists.{at, atℤ, written}
 use Rattle.numbers.proofs.ListLaws.{length-listTo}
 use Rattle.numbers.proofs.PartLaws.{front-written, length-kept}
+use Rattle.numbers.proofs.SignedLaws.{parts-le, about}
 use Rattle.blocks.specs.Words.{Words}
 use Rattle.qlt_spec.specs.Field.{Lists}
 use Rattle.files_spec.specs.FieldFile.{fronts, overFronts, FieldTyped}
@@ -119,23 +120,38 @@ words-take n l h i = go (decLt i n)
     go (yes m) = rw (getD-take n l i 0 m) (h i)
     go (no m) = rw (List·getD-eq-default (take n l) 0 {n = i} (omega (arith, length-take n l))) (omega arith)
 
-pub fronts-typed : (n m : ℕ) (s : Lists) (M : ℕ) → FieldTyped s M → FieldTyped (fronts n m s) M
-fronts-typed n m s M t =
+-- signed numbers of 32 bits
+signed-range : (z : ℤ) → mag z < 2 ^ 31 → (negsuc 2147483647 ≤ℤ z) × (z ≤ℤ pos 2147483647)
+signed-range z h = (parts-le {a = negsuc 2147483647} {b = z} (omega (arith, about z)), parts-le {a = z} {b = pos 2147483647} (omega (arith, about z)))
+
+-- of the targets only the first n need fit
+pub fronts-typed :
+    (n m : ℕ) (s : Lists) (M : ℕ)
+    → ((i : ℕ) → i < n → mag (atℤ (s .targets) i) < 2 ^ 31)
+    → Words (s .lows)
+    → Words (s .highs)
+    → Words (s .safeLows)
+    → Words (s .safeHighs)
+    → Words (s .weights)
+    → Words (s .parents)
+    → M < 2 ^ 32
+    → FieldTyped (fronts n m s) M
+fronts-typed n m s M targets lows highs safeLows safeHighs weights parents total =
     record {
       least = λ i. target i .0;
       most = λ i. target i .1;
-      low-words = words-take n (s .lows) (t .low-words);
-      high-words = words-take n (s .highs) (t .high-words);
-      safe-low-words = words-take n (s .safeLows) (t .safe-low-words);
-      safe-high-words = words-take n (s .safeHighs) (t .safe-high-words);
-      weight-words = words-take n (s .weights) (t .weight-words);
-      parent-words = words-take m (s .parents) (t .parent-words);
-      total-word = t .total-word;
+      low-words = words-take n (s .lows) lows;
+      high-words = words-take n (s .highs) highs;
+      safe-low-words = words-take n (s .safeLows) safeLows;
+      safe-high-words = words-take n (s .safeHighs) safeHighs;
+      weight-words = words-take n (s .weights) weights;
+      parent-words = words-take m (s .parents) parents;
+      total-word = total;
     }
   where
     target : (i : ℕ) → (negsuc 2147483647 ≤ℤ atℤ (take n (s .targets)) i) × (atℤ (take n (s .targets)) i ≤ℤ pos 2147483647)
-    target i = go (decLt i n)
+    target i = signed-range (atℤ (take n (s .targets)) i) (go (decLt i n))
       where
-        go : Dec (i < n) → (negsuc 2147483647 ≤ℤ atℤ (take n (s .targets)) i) × (atℤ (take n (s .targets)) i ≤ℤ pos 2147483647)
-        go (yes l) = rw (getD-take n (s .targets) i (pos 0) l) (t .least i, t .most i)
-        go (no l) = rw (List·getD-eq-default (take n (s .targets)) (pos 0) {n = i} (omega (arith, length-take n (s .targets)))) (record { le = tt }, record { le = tt })
+        go : Dec (i < n) → mag (atℤ (take n (s .targets)) i) < 2 ^ 31
+        go (yes l) = rw (getD-take n (s .targets) i (pos 0) l) (targets i l)
+        go (no l) = rw (List·getD-eq-default (take n (s .targets)) (pos 0) {n = i} (omega (arith, length-take n (s .targets)))) (omega arith)

@@ -1,21 +1,21 @@
 -- What reading's verdict means, that an answer tells its verdict and its values and nothing else, and what the contract alone says of a
 -- call. Assumes nothing.
 use mathlib.Core.Path.{_≡_, refl, sym, _∙_, ap, ap₂, subst}
-use mathlib.Core.Logic.{_↔_, inl, inr, ⊎-elim}
+use mathlib.Core.Logic.{_↔_}
 use mathlib.Core.Bool.{Bool, true, false, cond, _&&_}
 use mathlib.Core.List.{List, [], _∷_}
-use Prim.Native.Nat.{ℕ, zero, suc, _+_, _*_, _-_, _%_, _≤_, _<_}
+use Prim.Native.Nat.{ℕ, _+_, _-_, _≤_, _<_}
 use native.Mathlib.Omega.{arith}
 use borrow.Author.Tests.{le-leb, lt-leb}
 use lib.Dec.{leb}
 use lib.ListN.{length}
 use Rattle.numbers.specs.declared.Checked.{Checked}
 use Rattle.numbers.specs.declared.Checked.the-variants.{Pass, Fail}
-use Rattle.numbers.specs.Checks.{checkLong, after, unless, both, eachFrom, Rule, Decides, rule, ruleFor, Holds, Broken, DecidesAll, rulesFrom, numbersOf, OneOf, RefuseWith}
-use Rattle.numbers.proofs.TestLaws.{and-means, lt-means, le-means, eq-means, injective}
-use Rattle.numbers.proofs.CheckLaws.{on, both-first, both-second, both-pass, unless-and, each-append, each-ext, answered-accepted, answered-refused, decides-for, decides-unless, decides-then, decides-none, decides-append, decides-each, count-decides}
+use Rattle.numbers.specs.Checks.{checkLong, after, unless, both, eachFrom, Decides, rule, Holds, Broken, DecidesAll, RefuseWith}
+use Rattle.numbers.proofs.TestLaws.{and-means, le-means, injective}
+use Rattle.numbers.proofs.CheckLaws.{on, both-first, both-second, both-pass, unless-and, each-append, each-ext, answered-accepted, answered-refused, decides-unless, decides-then, decides-none, decides-append, decides-each, count-decides}
 use Rattle.numbers.proofs.ChainLaws.{refuse-with, refuse-each}
-use Rattle.blocks.specs.Blocks.{blockOf, payloadWord, checkBlock, SoundBlock, SpareZero, blockRules}
+use Rattle.blocks.specs.Blocks.{blockOf, checkBlock, SoundBlock, SpareZero, blockRules}
 use Rattle.blocks.specs.Tables.{tableBlocks, tableUsed, TableFits, HasTable, checkTable, listTable}
 use Rattle.blocks.proofs.BlockLaws.{sound-decides, spare-decides, block-decides}
 use Rattle.blocks.proofs.FileLaws.{length-decides, blocks-decides, mark-decides, later-fits}

@@ -2,20 +2,18 @@
 -- Assumes nothing.
 use mathlib.Core.Path.{_≡_, refl, sym, _∙_, ap, subst}
 use mathlib.Core.Logic.{_↔_}
-use mathlib.Core.Bool.{Bool, true, false, cond}
-use mathlib.Core.List.{List, [], _∷_, _++_}
+use mathlib.Core.List.{List, _++_}
 use Prim.Native.Nat.{ℕ, _+_, _*_, _-_, _≤_, _<_, _^_}
 use native.Mathlib.Nat.{sub-zero}
 use native.Mathlib.Decide.{decLt}
 use native.Mathlib.Omega.{arith}
 use borrow.Author.Tests.{le-leb, lt-leb}
-use lib.Dec.{leb}
 use lib.ListN.{length, take, drop, take-append-drop}
 use lib.Seq.{length-take-le}
 use Rattle.numbers.specs.declared.Checked.{Checked}
 use Rattle.numbers.specs.declared.Checked.the-variants.{Pass, Fail}
-use Rattle.numbers.specs.Lists.{at, written}
-use Rattle.numbers.specs.Checks.{Answered, accepted, refused, answered, after}
+use Rattle.numbers.specs.Lists.{written}
+use Rattle.numbers.specs.Checks.{Answered, accepted, refused}
 use Rattle.numbers.proofs.CheckLaws.{answered-accepted, answered-refused, after-pass, after-fail}
 use Rattle.numbers.proofs.PartLaws.{part-written}
 use Rattle.qlt_spec.specs.declared.Repair.{Repair}

@@ -25,6 +25,7 @@ use Rattle.qlt_spec.specs.Operation.{reconstructCall, reconstructVerdict, repai
 use Rattle.files_spec.specs.declared.FieldRead.{FieldRead}
 use Rattle.files_spec.specs.declared.FieldRead.the-variants as read
 use Rattle.files_spec.specs.ReadField.{fileCells, fileNodes, fileTotal, headVerdict, readVerdict, ReadFits, listsRead, ReadContract, fileLists}
+use Rattle.files_spec.proofs.FrontLaws.{held-sized, fronts-over}
 use Rattle.files_spec.proofs.ReadLaws.{read-done, read-refused, read-accepts}
 use Rattle.repair_file.specs.declared.FileRepaired.{FileRepaired}
 use Rattle.repair_file.specs.declared.FileRepaired.the-variants.{Done, Refused}
@@ -78,19 +79,15 @@ front {ℓ} : {X : Type ℓ} (l : List X) (n : ℕ) (f : ℕ → X) → take n (
 front l n f = front-written l (listTo n f) n (length-listTo n f)
 
 pub fronts-read : (file : List ℕ) (s : Lists) → fronts (fileCells file) (fileNodes file) (listsRead file s) ≡ fileLists file
-unfolding fileLists
-fronts-read file s =
-    rw (front (s .targets), front (s .lows), front (s .highs), front (s .safeLows), front (s .safeHighs), front (s .weights), front (s .parents))
+fronts-read file s = fronts-over (fileCells file) (fileNodes file) s (fileLists file) (held-sized file)
 
 -- ---- sizes of what a file holds
 
 pub length-cells : (file : List ℕ) → length (fileLists file .targets) ≡ fileCells file
-unfolding fileLists
-length-cells file = length-listTo (fileCells file) _
+length-cells file = held-sized file .targets
 
 pub length-nodes : (file : List ℕ) → nodes (fileLists file) ≡ fileNodes file
-unfolding fileLists
-length-nodes file = length-listTo (fileNodes file) _
+length-nodes file = held-sized file .parents
 
 pub masses-are : (file : List ℕ) → fileMasses file ≡ listTo (fileCells file) (treeMass (field (fileLists file)) (fileTotal file))
 unfolding fileMasses treeMasses

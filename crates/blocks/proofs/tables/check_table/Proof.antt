@@ -1,7 +1,7 @@
 -- `blocks::tables::check_table` meets its contract: the verdict is that of the blocks from b on.
 use mathlib.Core.Path.{_≡_, sym, ap, _∙_}
 use mathlib.Core.List.{List}
-use Prim.Native.Nat.{ℕ, _+_, _-_, _≤_}
+use Prim.Native.Nat.{ℕ, _-_, _≤_}
 use native.Mathlib.Omega.{arith}
 use Rattle.numbers.specs.declared.Checked.{Checked}
 use Rattle.numbers.specs.Checks.{eachFrom}

@@ -1,40 +1,20 @@
 -- `field_file::cells::cell_word` meets its contract: each test finds its word.
-use mathlib.Core.Path.{_≡_, sym, ap, _∙_}
-use mathlib.Core.List.{List, []}
+use mathlib.Core.Path.{_≡_, sym, ap}
+use mathlib.Core.List.{List}
 use Prim.Native.Nat.{ℕ}
 use native.Mathlib.Omega.{arith}
-use mir.Syntax.{w32}
-use mir.ValLaws.{toZ-ofZ}
-use Rattle.numbers.specs.Lists.{at, atℤ}
-use Rattle.blocks.specs.Words.{signedWord}
-use Rattle.qlt_spec.specs.Field.{lists}
-use Rattle.files_spec.specs.FieldFile.{cellWords}
+use Rattle.numbers.specs.Lists.{at}
+use Rattle.field_file.specs.Cells.{sixWords}
 use borrow.Author.Needs.{needs}
 use Rattle.field_file.proofs.cells.cell_word.Statement.{statement}
 use Rattle.field_file.proofs.cells.cell_word.Tie as tie
 
 -- the six words
 abbrev words : tie.Start → List ℕ
-words c = cellWords (lists (c .args .targets .now) (c .args .lows .now) (c .args .highs .now) (c .args .safe-lows .now) (c .args .safe-highs .now) (c .args .weights .now) []) (c .args .i)
+words c = sixWords (c .args .target-words .now) (c .args .lows .now) (c .args .highs .now) (c .args .safe-lows .now) (c .args .safe-highs .now) (c .args .weights .now) (c .args .i)
 
 word-is : (c : tie.Start) (k : ℕ) → c .args .j ≡ k → at (words c) k ≡ at (words c) (c .args .j)
 word-is c k e = ap (at (words c)) (sym e)
-
-mul-signed-word : tie.Need-mul-signed-word
-mul-signed-word c = search needs
-
-shared-slice-copy-out-signed-word : tie.Need-shared-slice-copy-out-signed-word
-shared-slice-copy-out-signed-word c = search needs
-
-signed-word-requires : tie.Need-signed-word-requires
-signed-word-requires c κs = search needs
-
-returns : tie.Need-returns
-returns c =
-    let a = c .before .before .before .before .before .before .before .before .args in
-    c .signed-word .ensures
-    ∙ ap signedWord (toZ-ofZ w32 (atℤ (a .targets .now) (a .i)) (record { sfits = c .before .signed-word-arg .given }))
-    ∙ word-is (c .before .before .before .before .before .before .before .before) 0 (c .before .before .if1 .taken)
 
 mul-result : tie.Need-mul-result
 mul-result c = search needs
@@ -42,8 +22,8 @@ mul-result c = search needs
 shared-slice-read-result : tie.Need-shared-slice-read-result
 shared-slice-read-result c = search needs
 
-returns-2 : tie.Need-returns-2
-returns-2 c = word-is (c .before .before .before .before .before .before .before .before) 1 (c .before .if2 .taken)
+returns : tie.Need-returns
+returns c = word-is (c .before .before) 0 (c .before .if1 .taken)
 
 mul-result-2 : tie.Need-mul-result-2
 mul-result-2 c = search needs
@@ -51,8 +31,8 @@ mul-result-2 c = search needs
 shared-slice-read-result-2 : tie.Need-shared-slice-read-result-2
 shared-slice-read-result-2 c = search needs
 
-returns-3 : tie.Need-returns-3
-returns-3 c = word-is (c .before .before .before .before .before .before .before .before .before) 2 (c .before .if3 .taken)
+returns-2 : tie.Need-returns-2
+returns-2 c = word-is (c .before .before .before) 1 (c .before .if2 .taken)
 
 mul-result-3 : tie.Need-mul-result-3
 mul-result-3 c = search needs
@@ -60,8 +40,8 @@ mul-result-3 c = search needs
 shared-slice-read-result-3 : tie.Need-shared-slice-read-result-3
 shared-slice-read-result-3 c = search needs
 
-returns-4 : tie.Need-returns-4
-returns-4 c = word-is (c .before .before .before .before .before .before .before .before .before .before) 3 (c .before .if4 .taken)
+returns-3 : tie.Need-returns-3
+returns-3 c = word-is (c .before .before .before .before) 2 (c .before .if3 .taken)
 
 mul-result-4 : tie.Need-mul-result-4
 mul-result-4 c = search needs
@@ -69,8 +49,8 @@ mul-result-4 c = search needs
 shared-slice-read-result-4 : tie.Need-shared-slice-read-result-4
 shared-slice-read-result-4 c = search needs
 
-returns-5 : tie.Need-returns-5
-returns-5 c = word-is (c .before .before .before .before .before .before .before .before .before .before .before) 4 (c .before .if5 .taken)
+returns-4 : tie.Need-returns-4
+returns-4 c = word-is (c .before .before .before .before .before) 3 (c .before .if4 .taken)
 
 mul-result-5 : tie.Need-mul-result-5
 mul-result-5 c = search needs
@@ -78,29 +58,37 @@ mul-result-5 c = search needs
 shared-slice-read-result-5 : tie.Need-shared-slice-read-result-5
 shared-slice-read-result-5 c = search needs
 
+returns-5 : tie.Need-returns-5
+returns-5 c = word-is (c .before .before .before .before .before .before) 4 (c .before .if5 .taken)
+
+mul-result-6 : tie.Need-mul-result-6
+mul-result-6 c = search needs
+
+shared-slice-read-result-6 : tie.Need-shared-slice-read-result-6
+shared-slice-read-result-6 c = search needs
+
 returns-6 : tie.Need-returns-6
-returns-6 c = word-is (c .before .before .before .before .before .before .before .before .before .before .before) 5 (omega (arith, c .before .before .before .before .before .before .before .before .before .before .before .pre .1, c .before .before .before .before .before .if1 .left, c .before .before .before .before .if2 .left, c .before .before .before .if3 .left, c .before .before .if4 .left, c .before .if5 .left))
+returns-6 c = word-is (c .before .before .before .before .before .before) 5 (omega (arith, c .before .before .before .before .before .before .pre .1, c .before .before .before .before .before .if1 .left, c .before .before .before .before .if2 .left, c .before .before .before .if3 .left, c .before .before .if4 .left, c .before .if5 .left))
 
 pub cell-word-spec : {M : Type 1} → statement M
 cell-word-spec =
     tie.close
     (tie.spec
-    mul-signed-word
-    shared-slice-copy-out-signed-word
-    signed-word-requires
-    returns
     mul-result
     shared-slice-read-result
-    returns-2
+    returns
     mul-result-2
     shared-slice-read-result-2
-    returns-3
+    returns-2
     mul-result-3
     shared-slice-read-result-3
-    returns-4
+    returns-3
     mul-result-4
     shared-slice-read-result-4
-    returns-5
+    returns-4
     mul-result-5
     shared-slice-read-result-5
+    returns-5
+    mul-result-6
+    shared-slice-read-result-6
     returns-6)

@@ -1,7 +1,7 @@
 -- `field_file::cells::put_cell_block` meets its contract: the words of the block, which stand at the front of the list, fill the part
 -- that is that block.
 use mathlib.Core.Path.{_≡_, sym, ap, _∙_}
-use mathlib.Core.List.{List, []}
+use mathlib.Core.List.{List}
 use Prim.Native.Nat.{ℕ, _+_, _*_, _-_}
 use native.Mathlib.Omega.{arith}
 use lib.ListN.{take}
@@ -12,9 +12,9 @@ use Rattle.blocks.specs.Blocks.{blockBytes}
 use Rattle.blocks.specs.Tables.{tableWords}
 use Rattle.blocks.proofs.BlockLaws.{length-blockBytes}
 use Rattle.blocks.proofs.TableLaws.{length-tableWords}
-use Rattle.qlt_spec.specs.Field.{lists}
-use Rattle.files_spec.specs.FieldFile.{cellTable, cellWords}
+use Rattle.files_spec.specs.FieldFile.{cellTable}
 use Rattle.files_spec.proofs.ReadLaws.{cell-fits}
+use Rattle.field_file.specs.Cells.{sixWords}
 use borrow.Author.Needs.{needs}
 use Rattle.field_file.proofs.cells.put_cell_block.Statement.{statement}
 use Rattle.field_file.proofs.cells.put_cell_block.Tie as tie
@@ -22,8 +22,8 @@ use Rattle.field_file.proofs.cells.put_cell_block.Tie as tie
 -- the words of the block
 abbrev words : tie.Start → List ℕ
 words c =
-    let f = lists (c .args .targets .now) (c .args .lows .now) (c .args .highs .now) (c .args .safe-lows .now) (c .args .safe-highs .now) (c .args .weights .now) [] in
-    tableWords cellTable (c .args .n) (λ i j. at (cellWords f i) j) (c .args .k)
+    let f = sixWords (c .args .target-words .now) (c .args .lows .now) (c .args .highs .now) (c .args .safe-lows .now) (c .args .safe-highs .now) (c .args .weights .now) in
+    tableWords cellTable (c .args .n) (λ i j. at (f i) j) (c .args .k)
 
 fill-cells-requires : tie.Need-fill-cells-requires
 fill-cells-requires c κs = search needs
@@ -75,14 +75,14 @@ same-length-2 c = search needs
 
 returns : tie.Need-returns
 returns c =
-    let a = c .before .before .before .before .before .before .before .before .before .before .before .before .before .before .before .before .before .args in
+    let a = c .before .before .before .before .before .before .before .before .before .before .before .before .before .before .before .before .before .before .args in
     let f = c .before .before .before .before .before .before .before .before .fill-cells in
     let b = a .from + a .k in
     let at = 512 * (b - 1) in
     let used : f .result - 0 ≡ f .result = omega arith in
     ap (λ vs. putMid at (at + 512 - at) (a .buffer .now) vs)
     (c .before .before .fill-block .ensures ∙ ap (blockBytes b) (ap (take (f .result - 0)) (f .ensures .1) ∙ front-written _ _ _ (length-tableWords cellTable cell-fits (a .n) _ (a .k) ∙ sym (f .ensures .0) ∙ sym used)))
-    ∙ put-back at (at + 512) (a .buffer .now) _ (omega (arith, length-blockBytes b (words (c .before .before .before .before .before .before .before .before .before .before .before .before .before .before .before .before .before))))
+    ∙ put-back at (at + 512) (a .buffer .now) _ (omega (arith, length-blockBytes b (words (c .before .before .before .before .before .before .before .before .before .before .before .before .before .before .before .before .before .before))))
 
 pub put-cell-block-spec : {M : Type 1} → statement M
 put-cell-block-spec =

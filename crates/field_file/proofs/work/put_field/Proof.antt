@@ -35,11 +35,13 @@ returns : tie.Need-returns
 returns c =
     let a = c .before .before .before .before .before .before .before .before .before .before .before .before .before .before .before .before .before .before .before .before .args in
     let s = given (c .before .before .before .before .before .before .before .before .before .before .before .before .before .before .before .before .before .before .before .before) in
-    let k = cellBlocks (a .n) in
-    c .before .before .put-list .ensures
-    ∙ ap (λ b. written (c .before .before .before .before .before .before .put-cells .last .0) (512 * (2 + b - 1)) (tableBytes listTable (a .m) (λ i j. at (a .parents .now) i) (2 + b) (parentBlocks (a .m)))) (c .before .before .before .before .before .before .before .before .before .before .before .before .table-blocks .ensures)
-    ∙ ap (λ x. written x (512 * (2 + k - 1)) (parentBytes (a .n) (a .m) s)) (c .before .before .before .before .before .before .put-cells .ensures ∙ ap (λ x. written x (512 * (2 - 1)) (cellBytes (a .n) s)) (c .before .before .before .before .before .before .before .before .before .before .put-head .ensures))
-    ∙ field-written (a .n) (a .m) s (c .before .before .before .before .before .before .before .before .before .before .before .before .before .before .before .before .before .before .before .before .pre .3) (a .total) (a .buffer .now)
+    let k = cellBlocks (a .n) in (
+      c .before .before .put-list .ensures
+          ∙ ap (λ b. written (c .before .before .before .before .before .before .put-cells .last .0) (512 * (2 + b - 1)) (tableBytes listTable (a .m) (λ i j. at (a .parents .now) i) (2 + b) (parentBlocks (a .m)))) (c .before .before .before .before .before .before .before .before .before .before .before .before .table-blocks .ensures)
+          ∙ ap (λ x. written x (512 * (2 + k - 1)) (parentBytes (a .n) (a .m) s)) (c .before .before .before .before .before .before .put-cells .ensures .0 ∙ ap (λ x. written x (512 * (2 - 1)) (cellBytes (a .n) s)) (c .before .before .before .before .before .before .before .before .before .before .put-head .ensures))
+          ∙ field-written (a .n) (a .m) s (c .before .before .before .before .before .before .before .before .before .before .before .before .before .before .before .before .before .before .before .before .pre .3) (a .total) (a .buffer .now),
+      c .before .before .before .before .before .before .put-cells .ensures .1,
+    )
 
 pub put-field-spec : {M : Type 1} → statement M
 put-field-spec =

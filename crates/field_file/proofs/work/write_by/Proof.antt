@@ -3,7 +3,7 @@
 use mathlib.Core.Path.{sym, _∙_, ap}
 use Prim.Native.Nat.{_*_}
 use Rattle.numbers.specs.Checks.{accepted, answered}
-use Rattle.numbers.proofs.CheckLaws.{after-pass, after-fail}
+use Rattle.numbers.proofs.CheckLaws.{no-pass, after-pass, after-fail}
 use Rattle.qlt_spec.specs.Field.{lists}
 use Rattle.files_spec.specs.FieldFile.{fieldBlocks}
 use Rattle.files_spec.specs.WriteField.{FieldWriteCall, fieldWriteCall, FieldWriteFits, fieldWriteTells}
@@ -26,7 +26,7 @@ returns : tie.Need-returns
 unfolding fieldWriteTells
 returns c =
     let e = c .before .verdict .given .1 in
-    (ap (λ v. answered v (512 * fieldBlocks (c .before .before .before .before .before .before .before .before .before .before .args .cells) (c .before .before .before .before .before .before .before .before .before .before .args .nodes))) (sym e), after-fail _ _ e)
+    (ap (λ v. answered v (512 * fieldBlocks (c .before .before .before .before .before .before .before .before .before .before .args .cells) (c .before .before .before .before .before .before .before .before .before .before .args .nodes))) (sym e), (after-fail _ _ e, λ p. absurd (no-pass p e)))
 
 enum-told : tie.Need-enum-told
 enum-told c = search needs
@@ -48,7 +48,7 @@ returns-2 : tie.Need-returns-2
 unfolding fieldWriteTells
 returns-2 c =
     let e = c .before .before .before .before .before .enum-told .given .1 in
-    (ap accepted (c .file-length .ensures) ∙ ap (λ v. answered v (512 * fieldBlocks (c .before .before .before .before .before .before .before .before .before .before .before .before .before .before .args .cells) (c .before .before .before .before .before .before .before .before .before .before .before .before .before .before .args .nodes))) (sym e), after-pass _ e (c .before .before .before .put-field .ensures))
+    (ap accepted (c .file-length .ensures) ∙ ap (λ v. answered v (512 * fieldBlocks (c .before .before .before .before .before .before .before .before .before .before .before .before .before .before .args .cells) (c .before .before .before .before .before .before .before .before .before .before .before .before .before .before .args .nodes))) (sym e), (after-pass _ e (c .before .before .before .put-field .ensures .0), λ p. c .before .before .before .put-field .ensures .1))
 
 pub write-by-spec : {M : Type 1} → statement M
 write-by-spec =

@@ -1,0 +1,2 @@
+-- What the functions of the writer ask and leave.
+pub mod Cells
