@@ -41,6 +41,10 @@ held-sized file =
       parents = length-listTo _ _;
     }
 
+-- a list that has room keeps its length
+kept {ℓ} : {X : Type ℓ} (k : ℕ) (l vs : List X) → k ≤ length l → length vs ≡ k → k ≤ length (written l 0 vs)
+kept k l vs h e = omega (arith, length-kept l 0 vs (omega arith))
+
 module _ (n m : ℕ) (s : Lists) (r : Room n m s) where
   -- the fronts of longer lists
   pub fronts-sized : Sized n m (fronts n m s)
@@ -54,10 +58,6 @@ module _ (n m : ℕ) (s : Lists) (r : Room n m s) where
         weights = length-take-le n (s .weights) (r .weights);
         parents = length-take-le m (s .parents) (r .parents);
       }
-
-  -- a list that has room keeps its length
-  kept {ℓ} : {X : Type ℓ} (k : ℕ) (l vs : List X) → k ≤ length l → length vs ≡ k → k ≤ length (written l 0 vs)
-  kept k l vs h e = omega (arith, length-kept l 0 vs (omega arith))
 
   -- lists with room still have it when a field stands at their front
   pub over-room : (f : Lists) → Sized n m f → Room n m (overFronts s f)
@@ -113,7 +113,7 @@ fronts-own n m f z =
 
 -- ---- values at the front fit their types
 
-pub words-take : (n : ℕ) (l : List ℕ) → Words l → Words (take n l)
+words-take : (n : ℕ) (l : List ℕ) → Words l → Words (take n l)
 words-take n l h i = go (decLt i n)
   where
     go : Dec (i < n) → at (take n l) i < 2 ^ 32
