@@ -16,6 +16,7 @@ use blocks::tables::LIST;
 use blocks::tables::check_table;
 use blocks::tables::sum_column;
 use blocks::tables::table_blocks;
+use files_spec::HEAD_USED;
 use files_spec::MAX_ANSWER_FILE;
 use numbers::Checked;
 use numbers::checks::and;
@@ -90,7 +91,10 @@ fn head_block(file: &[u8]) -> Checked
     let outcome = check_outcome(payload_word(file, 1, 2));
     then(
         check_sound(file, 1),
-        then(check_mark(file), then(outcome, check_spare(file, 6, 1))),
+        then(
+            check_mark(file),
+            then(outcome, check_spare(file, HEAD_USED, 1)),
+        ),
     )
 }
 

@@ -14,6 +14,9 @@ use blocks::block::payload_word;
 use blocks::tables::LIST;
 use blocks::tables::put_list;
 use blocks::tables::read_column;
+use blocks::words::high_word;
+use blocks::words::low_word;
+use blocks::words::two_words;
 use files_spec::AnswerRead;
 use files_spec::AnswerWritten;
 use numbers::Checked;
@@ -24,8 +27,8 @@ fn put_head(buffer: &mut [u8], n: usize, repair: Repair)
     requires { ⌜ (n ≤ 512) × (512 ≤ length (now buffer)) ⌝ }
     ensures { λ _. ⌜ now (buffer .exit) ≡ written (now (buffer .entry)) 0 (blockBytes 1 (answerHead n repair)) ⌝ }
 {
-    let low = (repair.change % 4294967296) as u32;
-    let high = (repair.change / 4294967296) as u32;
+    let low = low_word(repair.change);
+    let high = high_word(repair.change);
     let head = [512u32, n as u32, repair.outcome, repair.total, low, high];
     fill_block(&mut buffer[0..512], 1, &head);
 }
@@ -73,12 +76,12 @@ fn told_repair(file: &[u8]) -> Repair
     requires { ⌜ 512 ≤ length (now file) ⌝ }
     ensures { λ r. ⌜ r ≡ answerRepair (now (file .entry)) ⌝ }
 {
-    let low = payload_word(file, 1, 4) as u64;
-    let high = payload_word(file, 1, 5) as u64;
+    let low = payload_word(file, 1, 4);
+    let high = payload_word(file, 1, 5);
     Repair {
         outcome: payload_word(file, 1, 2),
         total: payload_word(file, 1, 3),
-        change: low + high * 4294967296,
+        change: two_words(low, high),
     }
 }
 

@@ -1,5 +1,5 @@
--- Laws of words: a word is read back from its bytes, bytes are those of their words, and a signed number is read back from its word.
--- Assumes nothing.
+-- Laws of words: a word is read back from its bytes, bytes are those of their words, a signed number is read back from its word, and a
+-- number of 64 bits from its two. Assumes nothing.
 use mathlib.Core.Path.{_≡_, refl, sym, ap, ap₂, _∙_}
 use mathlib.Core.List.{List, [], _∷_, _++_, append-assoc}
 use Prim.Native.Nat.{ℕ, zero, suc, _+_, _*_, _-_, _/_, _%_, _^_, _≤_, _<_}
@@ -18,7 +18,7 @@ use Rattle.numbers.proofs.SignedLaws.{le-rule, parts-le}
 use Rattle.numbers.proofs.SumLaws.{sumTo-next}
 use Rattle.numbers.proofs.ListLaws.{length-listTo, getD-listTo}
 use Rattle.numbers.proofs.PartLaws.{getD-part, getD-skip, written-seam}
-use Rattle.blocks.specs.Words.{wordAt, wordBytes, wordsBytes, Bytes, Words, signedWord, wordSigned}
+use Rattle.blocks.specs.Words.{wordAt, wordBytes, wordsBytes, Bytes, Words, signedWord, wordSigned, lowWord, highWord, twoWords}
 
 -- a sum of words that wraps, with one summand more: the summand may have wrapped already
 pub wrap-next : (f : ℕ → ℕ) (n a x : ℕ) → a ≡ sumTo ℕ-adds n f % 2 ^ 32 → x % 2 ^ 32 ≡ f n % 2 ^ 32 → (a + x) % 2 ^ 32 ≡ sumTo ℕ-adds (n + 1) f % 2 ^ 32
@@ -205,3 +205,25 @@ word-signed-fits x h = go (decLt x 2147483648)
     go : Dec (x < 2147483648) → (negsuc 2147483647 ≤ℤ wordSigned x) × (wordSigned x ≤ℤ pos 2147483647)
     go (yes l) = unfold wordSigned in (rw (lt-ltb x 2147483648 l) (parts-le (omega arith), parts-le (omega arith)))
     go (no l) = unfold wordSigned in (rw (le-ltb x 2147483648 (omega arith)) (parts-le (omega arith), parts-le (omega arith)))
+
+-- ---- two words
+
+-- a number is the one that its two words make; of 64 bits, both fit
+pub two-words-back : (x : ℕ) → twoWords (lowWord x) (highWord x) ≡ x
+two-words-back x = omega arith
+
+pub low-word-fits : (x : ℕ) → lowWord x < 2 ^ 32
+low-word-fits x = omega arith
+
+pub high-word-fits : (x : ℕ) → x < 2 ^ 64 → highWord x < 2 ^ 32
+high-word-fits x h = omega arith
+
+-- two words are those of the number that they make, which has 64 bits
+pub low-word-back : (low high : ℕ) → low < 2 ^ 32 → lowWord (twoWords low high) ≡ low
+low-word-back low high h = omega arith
+
+pub high-word-back : (low high : ℕ) → low < 2 ^ 32 → highWord (twoWords low high) ≡ high
+high-word-back low high h = omega arith
+
+pub two-words-fit : (low high : ℕ) → low < 2 ^ 32 → high < 2 ^ 32 → twoWords low high < 2 ^ 64
+two-words-fit low high l h = omega arith

@@ -1,4 +1,4 @@
--- Words of 32 bits in bytes, low byte first, and signed numbers in words. Assumes nothing.
+-- Words of 32 bits in bytes, low byte first; signed numbers in words, and numbers of 64 bits in two. Assumes nothing.
 use mathlib.Core.Bool.{cond}
 use mathlib.Core.List.{List, [], _∷_, _++_}
 use Prim.Native.Nat.{ℕ, zero, suc, _+_, _*_, _-_, _/_, _%_, _^_, _<_}
@@ -33,3 +33,13 @@ signedWord (negsuc n) = 4294967295 - n
 
 unfoldable pub wordSigned : ℕ → ℤ
 wordSigned x = cond (ltb x 2147483648) (pos x) (negsuc (4294967295 - x))
+
+-- ---- the two words of a number of 64 bits, and the number that two words make
+abbrev pub lowWord : ℕ → ℕ
+lowWord x = x % 2 ^ 32
+
+abbrev pub highWord : ℕ → ℕ
+highWord x = x / 2 ^ 32
+
+abbrev pub twoWords : (low high : ℕ) → ℕ
+twoWords low high = low + high * 2 ^ 32

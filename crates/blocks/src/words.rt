@@ -1,9 +1,9 @@
-// Words of 32 bits in bytes, and signed numbers as words.
+// Words of 32 bits in bytes, signed numbers as words, and numbers of 64 bits as two words.
 ghost use mathlib.Core.Path.{_≡_};
 ghost use Prim.Native.Nat.{_+_, _*_, _-_, _≤_, _<_};
 ghost use lib.ListN.{length};
 ghost use Rattle.numbers.specs.Lists.{written};
-ghost use Rattle.blocks.specs.Words.{wordAt, wordBytes, signedWord, wordSigned};
+ghost use Rattle.blocks.specs.Words.{wordAt, wordBytes, signedWord, wordSigned, lowWord, highWord, twoWords};
 
 fn wide(x: u8) -> u32
     ensures { λ r. ⌜ (r ≡ x) × (r < 256) ⌝ }
@@ -52,4 +52,23 @@ pub fn signed_word(z: i32) -> u32
     } else {
         z as u32
     }
+}
+
+// The two words of a number of 64 bits, and the number that two words make.
+pub fn low_word(x: u64) -> u32
+    ensures { λ r. ⌜ r ≡ lowWord x ⌝ }
+{
+    (x % 4294967296) as u32
+}
+
+pub fn high_word(x: u64) -> u32
+    ensures { λ r. ⌜ r ≡ highWord x ⌝ }
+{
+    (x / 4294967296) as u32
+}
+
+pub fn two_words(low: u32, high: u32) -> u64
+    ensures { λ r. ⌜ r ≡ twoWords low high ⌝ }
+{
+    low as u64 + high as u64 * 4294967296
 }

@@ -13,12 +13,12 @@ use Rattle.numbers.specs.declared.Checked.the-variants.{Pass, Fail}
 use Rattle.numbers.specs.Sums.{ℕ-adds, ℤ-adds, sumTo}
 use Rattle.numbers.specs.Lists.{atℤ}
 use Rattle.numbers.specs.Signed.{over, under}
-use Rattle.numbers.specs.Checks.{after, first, checkCount, Decides, rule, ruleAt, Holds, Broken, maxTotal, DecidesAll, RefuseWith}
+use Rattle.numbers.specs.Checks.{answered, after, first, checkCount, Decides, rule, ruleAt, Holds, Broken, maxTotal, DecidesAll, RefuseWith}
 use Rattle.numbers.proofs.TestLaws.{and-means, eq-means, injective}
 use Rattle.numbers.proofs.SumLaws.{sumTo-ext, sumTo-none, sumTo-over}
 use Rattle.numbers.proofs.ListLaws.{length-listTo, getD-listTo}
 use Rattle.numbers.proofs.SignedLaws.{le-parts, from-zero, over-whole, from-zero-whole, leZ-means}
-use Rattle.numbers.proofs.CheckLaws.{answered-accepted, answered-refused, both-first, both-second, decides-unless, decides-from, decides-none, decides-then, every-means, count-decides}
+use Rattle.numbers.proofs.CheckLaws.{answered-accepted, answered-refused, after-pass, after-fail, both-first, both-second, decides-unless, decides-from, decides-none, decides-then, every-means, count-decides}
 use Rattle.numbers.proofs.ChainLaws.{refuse-with}
 use Rattle.caas_spec.specs.declared.SplitAnswer.{SplitAnswer}
 use Rattle.caas_spec.specs.declared.SplitAnswer.the-variants.{Done, Refused}
@@ -227,3 +227,12 @@ unfolding splitTells
 split-refused-keeps c number place masses p =
     let e = answered-refused (splitVerdict c) tt number place (p .answers) in
     (p .writes ∙ ap (λ v. after v (splitMasses c) (c .masses)) e, split-refuses c number place .0 e)
+
+-- and the contract by the verdict: of a call that is refused, and of one that is accepted
+pub contract-refused : (c : SplitCall) {number place : ℕ} → splitVerdict c ≡ Fail number place → SplitContract c (Refused number place) (c .masses)
+unfolding splitTells
+contract-refused c e = record { answers = ap (λ v. answered v tt) (sym e); writes = after-fail _ (c .masses) e }
+
+pub contract-done : (c : SplitCall) {masses : List ℤ} → splitVerdict c ≡ Pass → masses ≡ splitMasses c → SplitContract c Done masses
+unfolding splitTells
+contract-done c e w = record { answers = ap (λ v. answered v tt) (sym e); writes = after-pass (c .masses) e w }

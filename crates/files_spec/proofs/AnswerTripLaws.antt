@@ -1,5 +1,5 @@
 -- Answer files both ways: a file that is read is the bytes of what it holds, and a file that is written is read back. Assumes nothing.
-use mathlib.Core.Path.{_≡_, refl, sym, _∙_, ap, subst}
+use mathlib.Core.Path.{_≡_, refl, sym, _∙_, ap, ap₂, subst}
 use mathlib.Core.Bool.{Bool, true, false, cond}
 use mathlib.Core.List.{List}
 use Prim.Native.Nat.{ℕ, zero, suc, _+_, _*_, _-_, _/_, _%_, _^_, _≤_, _<_}
@@ -14,15 +14,15 @@ use Rattle.numbers.specs.Checks.{accepted, answered, after}
 use Rattle.numbers.proofs.CheckLaws.{answered-accepted}
 use Rattle.numbers.proofs.ListLaws.{getD-listTo}
 use Rattle.numbers.proofs.PartLaws.{front-written, written-own, length-kept}
-use Rattle.blocks.specs.Words.{Bytes, Words}
+use Rattle.blocks.specs.Words.{Bytes, Words, lowWord, highWord, twoWords}
 use Rattle.blocks.specs.Blocks.{blockOf, payloadWord, SoundBlock, SpareZero, IsFile}
 use Rattle.blocks.specs.Tables.{tableUsed, tableWord, listTable}
-use Rattle.blocks.proofs.WordLaws.{words-listTo}
+use Rattle.blocks.proofs.WordLaws.{words-listTo, two-words-back, low-word-fits, high-word-fits, low-word-back, high-word-back, two-words-fit}
 use Rattle.blocks.proofs.BlockLaws.{payloadWord-small}
 use Rattle.blocks.proofs.FileLaws.{length-fileBytes, fileBytes-bytes, fileBytes-ext, each-block, file-word, file-fits, file-own}
 use Rattle.blocks.proofs.TableLaws.{length-tableWords, tableWords-small, tableWords-ext, table-back, table-own, list-fits}
 use Rattle.qlt_spec.specs.declared.Repair.{Repair}
-use Rattle.files_spec.specs.AnswerFile.{answerBlocks, answerHead, massBlock, answerWords, answerBytes, answerUsed, massWord, AnswerTyped}
+use Rattle.files_spec.specs.AnswerFile.{answerBlocks, headUsed, answerHead, massBlock, answerWords, answerBytes, answerUsed, massWord, AnswerTyped}
 use Rattle.files_spec.specs.WriteAnswer.{WriteCall, writeCall, writeVerdict, WriteFits, writeTells, WriteContract}
 use Rattle.files_spec.specs.ReadAnswer.{answerCells, answerRepair, answerMasses, answerReadVerdict, AnswerReadFits, answerOf, answerReadTells, AnswerReadContract}
 use Rattle.files_spec.specs.Trip.{AnswerReading, AnswerWriting, AnswerTrip}
@@ -58,7 +58,7 @@ module _ (n : ℕ) (r : Repair) (masses : List ℕ) (t : AnswerTyped r masses) (
   unfolding answerWords answerUsed
   count b = go (leb b 1)
     where
-      go : (p : Bool) → length (cond p (answerHead n r) (massBlock n masses (b - 2))) ≡ cond p 6 (tableUsed listTable n (b - 2))
+      go : (p : Bool) → length (cond p (answerHead n r) (massBlock n masses (b - 2))) ≡ cond p headUsed (tableUsed listTable n (b - 2))
       go true = refl
       go false = length-tableWords listTable list-fits n (λ i j. at masses i) (b - 2)
 
@@ -67,8 +67,8 @@ module _ (n : ℕ) (r : Repair) (masses : List ℕ) (t : AnswerTyped r masses) (
   head-small (suc zero) = omega arith
   head-small (suc (suc zero)) = t .outcome-word
   head-small (suc (suc (suc zero))) = t .total-word
-  head-small (suc (suc (suc (suc zero)))) = omega arith
-  head-small (suc (suc (suc (suc (suc zero))))) = omega (arith, t .change-words)
+  head-small (suc (suc (suc (suc zero)))) = low-word-fits (r .change)
+  head-small (suc (suc (suc (suc (suc zero))))) = high-word-fits (r .change) (t .change-words)
   head-small (suc (suc (suc (suc (suc (suc i)))))) = omega arith
 
   small : (b : ℕ) → Words (ws b)
@@ -101,9 +101,9 @@ module _ (n : ℕ) (r : Repair) (masses : List ℕ) (t : AnswerTyped r masses) (
   repair-back =
       let o : payloadWord file 1 2 ≡ r .outcome = word 1 2 (omega arith) (omega arith) (omega arith) in
       let m : payloadWord file 1 3 ≡ r .total = word 1 3 (omega arith) (omega arith) (omega arith) in
-      let l : payloadWord file 1 4 ≡ r .change % 2 ^ 32 = word 1 4 (omega arith) (omega arith) (omega arith) in
-      let h : payloadWord file 1 5 ≡ r .change / 2 ^ 32 = word 1 5 (omega arith) (omega arith) (omega arith) in
-      let c : payloadWord file 1 4 + payloadWord file 1 5 * 2 ^ 32 ≡ r .change = omega arith in
+      let l : payloadWord file 1 4 ≡ lowWord (r .change) = word 1 4 (omega arith) (omega arith) (omega arith) in
+      let h : payloadWord file 1 5 ≡ highWord (r .change) = word 1 5 (omega arith) (omega arith) (omega arith) in
+      let c : twoWords (payloadWord file 1 4) (payloadWord file 1 5) ≡ r .change = ap₂ twoWords l h ∙ two-words-back (r .change) in
       rw (o, m, c)
 
   -- the masses
@@ -156,11 +156,11 @@ module _ (file : List ℕ) (room : ℕ) (y : Bytes file) (f : AnswerReadFits fil
   word-small : (b j : ℕ) → payloadWord file b j < 2 ^ 32
   word-small b j = payloadWord-small file b j y
 
-  head-own : answerWords N (answerRepair file) (answerMasses file) 1 ≡ listTo 6 (payloadWord file 1)
+  head-own : answerWords N (answerRepair file) (answerMasses file) 1 ≡ listTo headUsed (payloadWord file 1)
   unfolding answerWords listTo
   head-own =
-      let l : (payloadWord file 1 4 + payloadWord file 1 5 * 2 ^ 32) % 2 ^ 32 ≡ payloadWord file 1 4 = omega (arith, word-small 1 4) in
-      let h : (payloadWord file 1 4 + payloadWord file 1 5 * 2 ^ 32) / 2 ^ 32 ≡ payloadWord file 1 5 = omega (arith, word-small 1 4) in
+      let l = low-word-back (payloadWord file 1 4) (payloadWord file 1 5) (word-small 1 4) in
+      let h = high-word-back (payloadWord file 1 4) (payloadWord file 1 5) (word-small 1 4) in
       rw (l, h, f .head .mark)
 
   mass-word : (i j : ℕ) → i < N → j < 1 → at (answerMasses file) i ≡ tableWord listTable file 2 j i
@@ -204,7 +204,7 @@ module _ (file : List ℕ) (room : ℕ) (y : Bytes file) (f : AnswerReadFits fil
       record {
         outcome-word = word-small 1 2;
         total-word = word-small 1 3;
-        change-words = omega (arith, word-small 1 4, word-small 1 5);
+        change-words = two-words-fit _ _ (word-small 1 4) (word-small 1 5);
         mass-words = words-listTo N (massWord file) (λ i l. word-small _ _);
       }
 

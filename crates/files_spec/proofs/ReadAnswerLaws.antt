@@ -26,7 +26,7 @@ use Rattle.blocks.proofs.TableLaws.{tableUsed-small, used-same, list-fits}
 use Rattle.qlt_spec.specs.declared.Repair.{Repair}
 use Rattle.files_spec.specs.declared.AnswerRead.{AnswerRead}
 use Rattle.files_spec.specs.declared.AnswerRead.the-variants.{Read, Refused}
-use Rattle.files_spec.specs.AnswerFile.{Repaired, massBlocks, answerBlocks, answerUsed, massWord}
+use Rattle.files_spec.specs.AnswerFile.{Repaired, massBlocks, answerBlocks, headUsed, answerUsed, massWord}
 use Rattle.files_spec.specs.ReadAnswer.{answerCells, answerRepair, answerMasses, maxAnswerFile, answerHeadVerdict, answerLaterVerdict, answerSumVerdict, answerReadVerdict, answerHeadRules, answerLaterRules, answerReadRules, AnswerHeadFits, AnswerMeasured, AnswerReadFits, answerOf, answerReadTells, answerReadOf, AnswerReadContract}
 use Rattle.files_spec.proofs.WriteLaws.{outcome-decides, masses-decides}
 
@@ -109,7 +109,7 @@ module _ (file : List ℕ) where
         (decides-then _ _ _ _ (sound-decides file 1)
         (decides-then _ _ _ _ (mark-decides file)
         (decides-then _ _ _ _ (outcome-decides (answerRepair file .outcome))
-        (decides-then _ _ _ _ (spare-decides file 6 1 (omega arith))
+        (decides-then _ _ _ _ (spare-decides file headUsed 1 (omega arith))
         (decides-then _ _ _ _ (count-decides n)
         (decides-then _ _ _ _ (blocks-decides (length file) k)
         (decides-then _ _ _ _ (long-decides room n) decides-none)))))))

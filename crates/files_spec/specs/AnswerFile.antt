@@ -1,9 +1,9 @@
 -- The bytes of an answer file ('Files' of 01), and where each number of it stands. Assumes nothing.
 use mathlib.Core.Bool.{cond}
 use mathlib.Core.List.{List, [], _∷_}
-use Prim.Native.Nat.{ℕ, _+_, _-_, _/_, _%_, _^_, _<_}
+use Prim.Native.Nat.{ℕ, _+_, _-_, _^_, _<_}
 use lib.Dec.{leb}
-use Rattle.blocks.specs.Words.{Words}
+use Rattle.blocks.specs.Words.{Words, lowWord, highWord}
 use Rattle.blocks.specs.Blocks.{fileBytes}
 use Rattle.blocks.specs.Tables.{tableBlocks, tableUsed, tableWord, listTable, listBlock}
 use Rattle.qlt_spec.specs.declared.Repair.{Repair}
@@ -20,9 +20,12 @@ massBlocks n = tableBlocks listTable n
 abbrev pub answerBlocks : ℕ → ℕ
 answerBlocks n = 1 + massBlocks n
 
--- block 1; the k-th block of masses, from 0
+-- how many payload words block 1 uses; those words; the k-th block of masses, from 0
+abbrev pub headUsed : ℕ
+headUsed = 6
+
 abbrev pub answerHead : ℕ → Repair → List ℕ
-answerHead n r = 512 ∷ n ∷ r .outcome ∷ r .total ∷ r .change % 2 ^ 32 ∷ r .change / 2 ^ 32 ∷ []
+answerHead n r = 512 ∷ n ∷ r .outcome ∷ r .total ∷ lowWord (r .change) ∷ highWord (r .change) ∷ []
 
 abbrev pub massBlock : ℕ → List ℕ → ℕ → List ℕ
 massBlock n masses k = listBlock n masses k
@@ -38,7 +41,7 @@ answerBytes n r masses = fileBytes (answerWords n r masses) (answerBlocks n)
 
 -- how many payload words block b uses, in a file of n cells
 unfoldable pub answerUsed : ℕ → ℕ → ℕ
-answerUsed n b = cond (leb b 1) 6 (tableUsed listTable n (b - 2))
+answerUsed n b = cond (leb b 1) headUsed (tableUsed listTable n (b - 2))
 
 -- mass i
 abbrev pub massWord : List ℕ → ℕ → ℕ

@@ -1,16 +1,16 @@
 -- The operation Read an answer (ticket 1 of 02): its verdict, its answer, and the masses it leaves. Assumes nothing.
 use mathlib.Core.Path.{_≡_}
 use mathlib.Core.List.{List, [], _∷_, _++_}
-use Prim.Native.Nat.{ℕ, _+_, _*_, _-_, _^_, _≤_, _<_}
+use Prim.Native.Nat.{ℕ, _*_, _-_, _≤_, _<_}
 use lib.ListN.{length}
 use Rattle.numbers.specs.declared.Checked.{Checked}
 use Rattle.numbers.specs.Lists.{listTo, written, sum}
 use Rattle.numbers.specs.Checks.{Answered, accepted, refused, answered, after, first, eachFrom, checkCount, checkLong, Rule, rule, ruleFor, rulesFrom}
-use Rattle.blocks.specs.Words.{Bytes}
+use Rattle.blocks.specs.Words.{Bytes, twoWords}
 use Rattle.blocks.specs.Blocks.{blockOf, payloadWord, checkSound, checkSpare, checkBlock, SoundBlock, SpareZero, blockRules}
 use Rattle.blocks.specs.Files.{checkFileLength, FileLength, checkBlockCount, checkMark}
 use Rattle.qlt_spec.specs.declared.Repair.{Repair}
-use Rattle.files_spec.specs.AnswerFile.{Repaired, answerBlocks, answerUsed, massWord}
+use Rattle.files_spec.specs.AnswerFile.{Repaired, answerBlocks, headUsed, answerUsed, massWord}
 use Rattle.files_spec.specs.WriteAnswer.{checkOutcome, checkMasses}
 use Rattle.files_spec.specs.declared.AnswerRead.{AnswerRead}
 use Rattle.files_spec.specs.declared.AnswerRead.the-variants.{Read, Refused}
@@ -26,7 +26,7 @@ answerRepair file =
     record {
       outcome = payloadWord file 1 2;
       total = payloadWord file 1 3;
-      change = payloadWord file 1 4 + payloadWord file 1 5 * 2 ^ 32;
+      change = twoWords (payloadWord file 1 4) (payloadWord file 1 5);
     }
 
 -- the masses
@@ -41,7 +41,7 @@ maxAnswerFile = 3072
 
 -- block 1: 15, then 16 for its first word, for the outcome and for its spare words
 abbrev pub answerBlockChecks : List ℕ → List Checked
-answerBlockChecks file = checkSound file 1 ∷ checkMark file ∷ checkOutcome (answerRepair file .outcome) ∷ checkSpare file 6 1 ∷ []
+answerBlockChecks file = checkSound file 1 ∷ checkMark file ∷ checkOutcome (answerRepair file .outcome) ∷ checkSpare file headUsed 1 ∷ []
 
 -- n, the length and the list
 abbrev pub answerSizeChecks : List ℕ → ℕ → List Checked
@@ -79,7 +79,7 @@ answerHeadRules file room =
     ∷ ruleFor 15 1 (SoundBlock (blockOf file 1) 1)
     ∷ ruleFor 16 1 (payloadWord file 1 0 ≡ 512)
     ∷ ruleFor 16 1 (answerRepair file .outcome ≤ 2)
-    ∷ ruleFor 16 1 (SpareZero file 6 1)
+    ∷ ruleFor 16 1 (SpareZero file headUsed 1)
     ∷ rule 1 ((0 < answerCells file) × (answerCells file ≤ 512))
     ∷ rule 14 (length file ≡ 512 * answerBlocks (answerCells file))
     ∷ rule 3 (answerCells file ≤ room)
@@ -97,7 +97,7 @@ pub record AnswerHeadFits (file : List ℕ) (room : ℕ) : Type 0 where
   pub sound : SoundBlock (blockOf file 1) 1
   pub mark : payloadWord file 1 0 ≡ 512
   pub outcome : answerRepair file .outcome ≤ 2
-  pub spare : SpareZero file 6 1
+  pub spare : SpareZero file headUsed 1
   pub some : 0 < answerCells file
   pub few : answerCells file ≤ 512
   pub room-for : answerCells file ≤ room

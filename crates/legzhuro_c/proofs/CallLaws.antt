@@ -33,7 +33,7 @@ use Rattle.doubles_spec.specs.declared.Exported.{Exported}
 use Rattle.doubles_spec.specs.declared.Exported.the-variants as exported
 use Rattle.doubles_spec.specs.Import.{importVerdict, importUnits, importTells, ImportContract}
 use Rattle.doubles_spec.specs.Export.{exportVerdict, exportDouble, exportTells, ExportContract}
-use Rattle.legzhuro_c.specs.Calls.{returned, SplitReturns, openCallVerdict, OpenReturns, stepCallVerdict, repairWords, StepReturns, importCallVerdict, unitsList, ImportReturns, exportCallVerdict, ExportReturns}
+use Rattle.legzhuro_c.specs.Calls.{returned, SplitReturns, openCallVerdict, OpenReturns, stepValues, stepCallVerdict, repairWords, StepReturns, importCallVerdict, unitsList, ImportReturns, exportCallVerdict, ExportReturns}
 
 -- ---- what a verdict makes of the return value and of a lent list
 
@@ -107,12 +107,12 @@ module _ (kept answer : List ℕ) where
 
 -- the checks of its shape, and then the operation's own verdict
 abbrev pub stepShape : StepCall → List ℕ → Checked
-stepShape c answer = first (checkCount (cells (c .lists)) ∷ checkNodes (cells (c .lists)) (nodes (c .lists)) ∷ checkLong (length answer) 3 ∷ [])
+stepShape c answer = first (checkCount (cells (c .lists)) ∷ checkNodes (cells (c .lists)) (nodes (c .lists)) ∷ checkLong (length answer) stepValues ∷ [])
 
 module _ (c : StepCall) (answer : List ℕ) where
   step-chain : stepCallVerdict c answer ≡ both (stepShape c answer) (stepVerdict c)
   unfolding stepCallVerdict
-  step-chain = go (checkCount (cells (c .lists))) (checkNodes (cells (c .lists)) (nodes (c .lists))) (checkLong (length answer) 3) (stepVerdict c)
+  step-chain = go (checkCount (cells (c .lists))) (checkNodes (cells (c .lists)) (nodes (c .lists))) (checkLong (length answer) stepValues) (stepVerdict c)
     where
       go : (s t u w : Checked) → both s (both t (both u (both w Pass))) ≡ both (both s (both t (both u Pass))) w
       go Pass Pass Pass w = both-pass w
@@ -127,9 +127,9 @@ module _ (c : StepCall) (answer : List ℕ) where
 
   module _ (e : stepShape c answer ≡ Pass) where
     -- a call that passes them has room for its values
-    pub step-room : 3 ≤ length answer
+    pub step-room : stepValues ≤ length answer
     step-room =
-        long-decides (length answer) 3 .passes .0
+        long-decides (length answer) stepValues .passes .0
         (both-first _ Pass (both-second (checkNodes (cells (c .lists)) (nodes (c .lists))) _ (both-second (checkCount (cells (c .lists))) _ e)))
 
     past-shape : stepCallVerdict c answer ≡ stepVerdict c

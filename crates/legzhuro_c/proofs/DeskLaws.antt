@@ -28,7 +28,7 @@ use Rattle.files_spec.specs.declared.AnswerRead.the-variants as answer-read
 use Rattle.files_spec.proofs.WriteFieldLaws.{field-write-decides, field-write-numbers}
 use Rattle.files_spec.proofs.ReadAnswerLaws.{length-masses, answer-read-decides, answer-read-numbers, answer-read-accepts, answer-read-done, answer-read-refused}
 use Rattle.legzhuro_c.specs.Calls.{returned, toldBy}
-use Rattle.legzhuro_c.specs.FileCalls.{WriteFieldReturns, answerRoom, readAnswerVerdict, ReadAnswerFits, repairedWords, ReadAnswerReturns, repairedIn}
+use Rattle.legzhuro_c.specs.FileCalls.{WriteFieldReturns, readValues, answerRoom, readAnswerVerdict, ReadAnswerFits, repairedWords, ReadAnswerReturns, repairedIn}
 use Rattle.legzhuro_c.proofs.CallLaws.{returned-pass, returned-fail, after-by}
 use Rattle.legzhuro_c.proofs.OwnLaws.{Numbered, numbered, told-own}
 
@@ -68,23 +68,23 @@ write-field-own c r buffer q =
 -- ---- Read an answer
 
 -- the room for masses
-room-long : (masses answer : ℕ) → 4 ≤ answer → answerRoom masses answer ≡ masses
-room-long masses answer h = rw (le-leb 4 answer h)
+room-long : (masses answer : ℕ) → readValues ≤ answer → answerRoom masses answer ≡ masses
+room-long masses answer h = rw (le-leb readValues answer h)
 
-room-short : (masses answer : ℕ) → answer < 4 → answerRoom masses answer ≡ 0
-room-short masses answer h = rw (lt-leb 4 answer h)
+room-short : (masses answer : ℕ) → answer < readValues → answerRoom masses answer ≡ 0
+room-short masses answer h = rw (lt-leb readValues answer h)
 
-room-some : (masses answer n : ℕ) → 0 < n → n ≤ answerRoom masses answer → 4 ≤ answer
-room-some masses answer n z h = go (decLt answer 4)
+room-some : (masses answer n : ℕ) → 0 < n → n ≤ answerRoom masses answer → readValues ≤ answer
+room-some masses answer n z h = go (decLt answer readValues)
   where
-    go : Dec (answer < 4) → 4 ≤ answer
+    go : Dec (answer < readValues) → readValues ≤ answer
     go (yes l) = absurd (omega (arith, room-short masses answer l))
     go (no l) = omega arith
 
 pub room-in : (masses answer : ℕ) → answerRoom masses answer ≤ masses
-room-in masses answer = go (decLt answer 4)
+room-in masses answer = go (decLt answer readValues)
   where
-    go : Dec (answer < 4) → answerRoom masses answer ≤ masses
+    go : Dec (answer < readValues) → answerRoom masses answer ≤ masses
     go (yes l) = omega (arith, room-short masses answer l)
     go (no l) = omega (arith, room-long masses answer (omega arith))
 
@@ -96,7 +96,7 @@ read-answer-accepts file masses answer =
     let t = answer-read-accepts file k in (
       λ e.
           let f = t .0 e in
-          let h : 4 ≤ length answer = room-some (length masses) (length answer) (answerCells file) (f .head .some) (f .head .room-for) in
+          let h : readValues ≤ length answer = room-some (length masses) (length answer) (answerCells file) (f .head .some) (f .head .room-for) in
           record { read = subst (AnswerReadFits file) (room-long (length masses) (length answer) h) f; values = h },
       λ f. t .1 (subst (AnswerReadFits file) (sym (room-long (length masses) (length answer) (f .values))) (f .read)),
     )
@@ -119,7 +119,7 @@ module _ (file masses answer : List ℕ) (k : ℕ) (d : k ≡ answerRoom (length
       done = answer-read-done (subst (λ b. AnswerReadContract file (take k masses) b part) e p)
 
       -- there is room for the values
-      pub read-answer-room : 4 ≤ length answer
+      pub read-answer-room : readValues ≤ length answer
       read-answer-room = let f = done .0 .head in room-some (length masses) (length answer) (answerCells file) (f .some) (omega (arith, f .room-for, lent))
 
       pub read-answer-done :
@@ -163,7 +163,7 @@ unfolding written
 repaired-read answer x = refl
 
 module _ (file masses answer : List ℕ) (r : ℕ) (masses′ answer′ : List ℕ) (q : ReadAnswerReturns file masses answer r masses′ answer′) where
-  pub read-answer-own : 4 ≤ length answer → AnswerReadContract file masses (answerReadOf (toldBy r (repairedIn answer′))) masses′
+  pub read-answer-own : readValues ≤ length answer → AnswerReadContract file masses (answerReadOf (toldBy r (repairedIn answer′))) masses′
   unfolding readAnswerVerdict
   read-answer-own h =
       let v : readAnswerVerdict file masses answer ≡ answerReadVerdict file (length masses) = ap (answerReadVerdict file) (room-long (length masses) (length answer) h) in
@@ -177,7 +177,7 @@ module _ (file masses answer : List ℕ) (r : ℕ) (masses′ answer′ : List �
         writes = q .writes ∙ after-by (written masses 0 (answerMasses file)) masses v;
       }
 
-  pub read-answer-short : length answer < 4 → (0 < r) × ((masses′ ≡ masses) × (answer′ ≡ answer))
+  pub read-answer-short : length answer < readValues → (0 < r) × ((masses′ ≡ masses) × (answer′ ≡ answer))
   read-answer-short h = go (readAnswerVerdict file masses answer) refl
     where
       go : (v : Checked) → readAnswerVerdict file masses answer ≡ v → (0 < r) × ((masses′ ≡ masses) × (answer′ ≡ answer))

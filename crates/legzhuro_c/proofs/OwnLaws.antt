@@ -34,7 +34,7 @@ use Rattle.doubles_spec.specs.Import.{doubleAt, importVerdict, importRules, imp
 use Rattle.doubles_spec.specs.Export.{exportVerdict, exportDouble, exportTells, exportAnswer, ExportContract}
 use Rattle.doubles_spec.proofs.ImportLaws.{import-decides, import-refuses, import-numbers}
 use Rattle.doubles_spec.proofs.ExportLaws.{export-decides, export-numbers, export-meets}
-use Rattle.legzhuro_c.specs.Calls.{returned, toldBy, SplitReturns, openCallVerdict, OpenReturns, stepCallVerdict, repairWords, StepReturns, importCallVerdict, unitsList, ImportReturns, exportCallVerdict, ExportReturns, repairIn, unitsIn, doubleIn}
+use Rattle.legzhuro_c.specs.Calls.{returned, toldBy, SplitReturns, openCallVerdict, OpenReturns, stepValues, stepCallVerdict, repairWords, StepReturns, importCallVerdict, unitsList, ImportReturns, exportCallVerdict, ExportReturns, repairIn, unitsIn, doubleIn}
 use Rattle.legzhuro_c.proofs.CallLaws.{after-by, long-passes, long-fails, room, no-room}
 
 -- ---- a return value tells its verdict
@@ -144,10 +144,10 @@ repair-read answer x = refl
 
 module _ (c : StepCall) (answer : List ℕ) where
   -- with room for its values, the call's verdict is Step's: 1 and 2 stand in it once more
-  step-long : 3 ≤ length answer → stepCallVerdict c answer ≡ stepVerdict c
+  step-long : stepValues ≤ length answer → stepCallVerdict c answer ≡ stepVerdict c
   unfolding stepCallVerdict stepVerdict checkShape
   step-long h =
-      ap (λ w. both (checkCount (cells (c .lists))) (both (checkNodes (cells (c .lists)) (nodes (c .lists))) (both w (both (stepVerdict c) Pass)))) (long-passes (length answer) 3 h)
+      ap (λ w. both (checkCount (cells (c .lists))) (both (checkNodes (cells (c .lists)) (nodes (c .lists))) (both w (both (stepVerdict c) Pass)))) (long-passes (length answer) stepValues h)
       ∙ again (checkCount (cells (c .lists))) (checkNodes (cells (c .lists)) (nodes (c .lists))) _ _
     where
       again : (s t u w : Checked) → both s (both t (both (both (both s (both t u)) w) Pass)) ≡ both (both s (both t u)) w
@@ -156,12 +156,12 @@ module _ (c : StepCall) (answer : List ℕ) where
       again (Fail number place) t u w = refl
 
   -- without it, the call is refused with 1, 2 or 3
-  step-no-room : length answer < 3 → (number : ℕ) × ((stepCallVerdict c answer ≡ Fail number 0) × ((number ≡ 1) ⊎ ((number ≡ 2) ⊎ (number ≡ 3))))
+  step-no-room : length answer < stepValues → (number : ℕ) × ((stepCallVerdict c answer ≡ Fail number 0) × ((number ≡ 1) ⊎ ((number ≡ 2) ⊎ (number ≡ 3))))
   unfolding stepCallVerdict checkCount checkNodes
   step-no-room h =
       let n = cells (c .lists) in
       let m = nodes (c .lists) in
-      go (ltb 0 n && leb n 512) (leb n m && leb m 1024) (checkLong (length answer) 3) (long-fails (length answer) 3 h) (both (stepVerdict c) Pass)
+      go (ltb 0 n && leb n 512) (leb n m && leb m 1024) (checkLong (length answer) stepValues) (long-fails (length answer) stepValues h) (both (stepVerdict c) Pass)
     where
       go : (a b : Bool) (v : Checked) → v ≡ Fail 3 0 → (w : Checked) → (number : ℕ) × ((both (unless a 1 0) (both (unless b 2 0) (both v w)) ≡ Fail number 0) × ((number ≡ 1) ⊎ ((number ≡ 2) ⊎ (number ≡ 3))))
       go false b v e w = (1, (refl, inl refl))
@@ -169,7 +169,7 @@ module _ (c : StepCall) (answer : List ℕ) where
       go true true v e w = (3, (ap (λ x. both x w) e, inr (inr refl)))
 
   module _ (r : ℕ) (kept : List ℕ) (scratch : List ℤ) (answer′ : List ℕ) where
-    pub step-own : 3 ≤ length answer → StepReturns c answer r kept scratch answer′ → StepContract c (stepAnswer (toldBy r (repairIn answer′))) kept scratch
+    pub step-own : stepValues ≤ length answer → StepReturns c answer r kept scratch answer′ → StepContract c (stepAnswer (toldBy r (repairIn answer′))) kept scratch
     step-own h q =
         let v = step-long h in
         let x = repair (c .lists) (newTotal c) in
@@ -181,12 +181,12 @@ module _ (c : StepCall) (answer : List ℕ) where
           leaves = subst (λ w. Leaves w (repairCall c) kept scratch) v (q .leaves);
         }
 
-    pub step-short : length answer < 3 → StepReturns c answer r kept scratch answer′ → (kept ≡ c .kept) × ((scratch ≡ c .scratch) × (answer′ ≡ answer))
+    pub step-short : length answer < stepValues → StepReturns c answer r kept scratch answer′ → (kept ≡ c .kept) × ((scratch ≡ c .scratch) × (answer′ ≡ answer))
     step-short h q =
         let v = step-no-room h .1 .0 in
         (q .leaves .writes ∙ after-by _ (c .kept) v, (q .leaves .clears ∙ after-by _ (c .scratch) v, q .writes ∙ after-by _ answer v))
 
-    pub step-short-returns : length answer < 3 → StepReturns c answer r kept scratch answer′ → (r ≡ 1) ⊎ ((r ≡ 2) ⊎ (r ≡ 3))
+    pub step-short-returns : length answer < stepValues → StepReturns c answer r kept scratch answer′ → (r ≡ 1) ⊎ ((r ≡ 2) ⊎ (r ≡ 3))
     step-short-returns h q =
         let n = step-no-room h in
         let e : r ≡ n .0 = q .returns ∙ ap returned (n .1 .0) ∙ omega arith in

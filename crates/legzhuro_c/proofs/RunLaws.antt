@@ -17,17 +17,17 @@ use Rattle.kept_spec.specs.Account.{Balance, Standing, told, balanceAfter, Prom
 use Rattle.kept_spec.proofs.RunLaws.{run-collect}
 use Rattle.kept_spec.proofs.StepLaws.{answer-tells}
 use Rattle.kept_spec.proofs.Demand3.{demand3}
-use Rattle.legzhuro_c.specs.Calls.{OpenReturns, repairIn, toldBy}
+use Rattle.legzhuro_c.specs.Calls.{OpenReturns, stepValues, repairIn, toldBy}
 use Rattle.legzhuro_c.specs.CallRuns.{CallEvent, eventOf, stepsOf, CallPromised, CallMoves}
 use Rattle.legzhuro_c.proofs.OwnLaws.{open-own, step-own, step-short, step-short-returns}
 
 -- with room for its values, a call keeps Step's contract
-pub call-promised : (e : CallEvent) → 3 ≤ length (e .answer) → CallPromised e → Promised (eventOf e)
+pub call-promised : (e : CallEvent) → stepValues ≤ length (e .answer) → CallPromised e → Promised (eventOf e)
 call-promised e room p = step-own (e .call) (e .answer) (e .returned) (e .kept) (e .scratch) (e .answer′) room p
 
 -- ---- without it
 
-module _ (e : CallEvent) (short : length (e .answer) < 3) (p : CallPromised e) where
+module _ (e : CallEvent) (short : length (e .answer) < stepValues) (p : CallPromised e) where
   -- it returns 1, 2 or 3, which tells a refusal
   small : (0 < e .returned) × (e .returned < 4)
   small =
@@ -46,22 +46,22 @@ module _ (e : CallEvent) (short : length (e .answer) < 3) (p : CallPromised e) w
 
 -- ---- moves
 
-by-room : (s : Standing) (t : Standing) (e : CallEvent) → CallMoves s e t → (b : Bool) → leb 3 (length (e .answer)) ≡ b → Run Moves s (cond b (eventOf e ∷ []) []) t
+by-room : (s : Standing) (t : Standing) (e : CallEvent) → CallMoves s e t → (b : Bool) → leb stepValues (length (e .answer)) ≡ b → Run Moves s (cond b (eventOf e ∷ []) []) t
 by-room s t e (CallMoves.lent before rest p part w) true r =
-    Run.step (Moves.lent before rest (call-promised e (leb-true 3 _ r) p) part w) Run.done
+    Run.step (Moves.lent before rest (call-promised e (leb-true stepValues _ r) p) part w) Run.done
 by-room s t e (CallMoves.lent before rest p part w) false r =
-    let h = leb-false 3 _ r in
+    let h = leb-false stepValues _ r in
     subst (Run Moves s [])
     (λ i. record {
       kept = (part ∙ ap (λ l. before ++ (l ++ rest)) (sym (kept-stays e h p))) i;
       balance = sym (balance-stays e h p (s .balance)) i;
     })
     Run.done
-by-room s t e (CallMoves.elsewhere p n) true r = Run.step (Moves.elsewhere (call-promised e (leb-true 3 _ r) p) n) Run.done
+by-room s t e (CallMoves.elsewhere p n) true r = Run.step (Moves.elsewhere (call-promised e (leb-true stepValues _ r) p) n) Run.done
 by-room s t e (CallMoves.elsewhere p n) false r = Run.done
 
 pub call-run : (s t : Standing) (es : List CallEvent) → Run CallMoves s es t → Run Moves s (collect stepsOf es) t
-call-run = run-collect stepsOf (λ s t e m. by-room s t e m (leb 3 (length (e .answer))) refl)
+call-run = run-collect stepsOf (λ s t e m. by-room s t e m (leb stepValues (length (e .answer))) refl)
 
 -- an opening from C that returned 0, and then any run of steps from C
 pub call-account :

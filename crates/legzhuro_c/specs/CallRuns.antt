@@ -8,7 +8,7 @@ use lib.IntN.{ℤ}
 use lib.ListN.{length}
 use Rattle.kept_spec.specs.Step.{StepCall, stepAnswer}
 use Rattle.kept_spec.specs.Account.{Event, Standing, balanceOf, told, Accepts, balanceAfter}
-use Rattle.legzhuro_c.specs.Calls.{StepReturns, repairIn, toldBy}
+use Rattle.legzhuro_c.specs.Calls.{stepValues, StepReturns, repairIn, toldBy}
 
 -- a call of `legzhuro_step` with what it returned and left
 pub record CallEvent : Type 0 where
@@ -31,7 +31,7 @@ eventOf e =
 
 -- one Step; none if the list for its values is too short, since such a call is refused for that
 abbrev pub stepsOf : CallEvent → List Event
-stepsOf e = cond (leb 3 (length (e .answer))) (eventOf e ∷ []) []
+stepsOf e = cond (leb stepValues (length (e .answer))) (eventOf e ∷ []) []
 
 -- exactly what the call promises, whatever the length of that list
 abbrev pub CallPromised : CallEvent → Type 0

@@ -81,10 +81,13 @@ pub record OpenReturns (kept answer : List ℕ) (r : ℕ) (answer′ : List ℕ)
   pub returns : r ≡ returned (openCallVerdict kept answer)
   pub writes : answer′ ≡ after (openCallVerdict kept answer) (written answer 0 (sum kept ∷ [])) answer
 
--- Step: outcome, total and change go to the first three entries of the answer, which counts under 3, after 1 and 2
+-- Step: what it tells goes to the first entries of the answer, which counts under 3, after 1 and 2
+abbrev pub stepValues : ℕ
+stepValues = 3
+
 unfoldable pub stepCallVerdict : StepCall → List ℕ → Checked
 stepCallVerdict c answer =
-    first (checkCount (cells (c .lists)) ∷ checkNodes (cells (c .lists)) (nodes (c .lists)) ∷ checkLong (length answer) 3 ∷ stepVerdict c ∷ [])
+    first (checkCount (cells (c .lists)) ∷ checkNodes (cells (c .lists)) (nodes (c .lists)) ∷ checkLong (length answer) stepValues ∷ stepVerdict c ∷ [])
 
 abbrev pub repairWords : Repair → List ℕ
 repairWords r = r .outcome ∷ r .total ∷ r .change ∷ []

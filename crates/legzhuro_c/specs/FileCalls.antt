@@ -2,7 +2,7 @@
 use mathlib.Core.Path.{_≡_}
 use mathlib.Core.Bool.{cond}
 use mathlib.Core.List.{List, _∷_}
-use Prim.Native.Nat.{ℕ, _≤_}
+use Prim.Native.Nat.{ℕ, suc, _≤_}
 use lib.Dec.{leb}
 use lib.ListN.{length}
 use Rattle.numbers.specs.declared.Checked.{Checked}
@@ -14,7 +14,7 @@ use Rattle.files_spec.specs.FieldFile.{fieldBytes, FieldTyped}
 use Rattle.files_spec.specs.WriteField.{FieldWriteCall, fieldWriteVerdict, fieldOf}
 use Rattle.files_spec.specs.AnswerFile.{Repaired}
 use Rattle.files_spec.specs.ReadAnswer.{answerMasses, answerReadVerdict, AnswerReadFits, answerOf}
-use Rattle.legzhuro_c.specs.Calls.{returned, repairWords}
+use Rattle.legzhuro_c.specs.Calls.{returned, stepValues, repairWords}
 
 -- ---- Write a field file: the length is not told, it is that of the cells and nodes
 
@@ -23,12 +23,14 @@ pub record WriteFieldReturns (c : FieldWriteCall) (r : ℕ) (buffer : List ℕ) 
   pub returns : r ≡ returned (fieldWriteVerdict c)
   pub writes : buffer ≡ after (fieldWriteVerdict c) (written (c .buffer) 0 (fieldBytes (fieldOf c) (c .total))) (c .buffer)
 
--- ---- Read an answer: cells, outcome, total and change go to the first four entries of `answer`
+-- ---- Read an answer: the number of cells and what Step tells go to the first entries of `answer`
+abbrev pub readValues : ℕ
+readValues = suc stepValues
 
 -- the room for masses that the call finds: none if `answer` is too short. A file has a cell, so this is refused with 3 as masses that are
 -- too short are, and at the same place in the order
 abbrev pub answerRoom : ℕ → ℕ → ℕ
-answerRoom masses answer = cond (leb 4 answer) masses 0
+answerRoom masses answer = cond (leb readValues answer) masses 0
 
 unfoldable pub readAnswerVerdict : (file masses answer : List ℕ) → Checked
 readAnswerVerdict file masses answer = answerReadVerdict file (answerRoom (length masses) (length answer))
@@ -36,7 +38,7 @@ readAnswerVerdict file masses answer = answerReadVerdict file (answerRoom (lengt
 -- what it means that the call is accepted
 pub record ReadAnswerFits (file masses answer : List ℕ) : Type 0 where
   pub read : AnswerReadFits file (length masses)
-  pub values : 4 ≤ length answer
+  pub values : readValues ≤ length answer
 
 abbrev pub repairedWords : Repaired → List ℕ
 repairedWords a = a .cells ∷ repairWords (a .repair)

@@ -6,8 +6,8 @@ ghost use lib.ListN.{length};
 ghost use Rattle.numbers.specs.Lists.{written};
 ghost use Rattle.numbers.specs.Checks.{first, checkCount, checkLong};
 ghost use Rattle.qlt_spec.specs.Checks.{checkNodes};
-ghost use Rattle.legzhuro_c.specs.Calls.{repairWords, unitsList};
-ghost use Rattle.legzhuro_c.specs.FileCalls.{answerRoom, repairedWords};
+ghost use Rattle.legzhuro_c.specs.Calls.{stepValues, repairWords, unitsList};
+ghost use Rattle.legzhuro_c.specs.FileCalls.{readValues, answerRoom, repairedWords};
 use doubles_spec::CellUnits;
 use field_checks::shape::check_nodes;
 use numbers::Checked;
@@ -23,13 +23,18 @@ pub fn refusal(number: u32, place: u32) -> u64
     number as u64 + place as u64 * 4294967296
 }
 
+// The values that Step tells, and those that Read an answer does; `stepValues` and `readValues` in specs/.
+const STEP_VALUES: usize = 3;
+
+const READ_VALUES: usize = 4;
+
 // Step's 1 and 2, and under 3 the list for its values.
 pub fn step_shape(cells: usize, nodes: usize, answer: usize) -> Checked
-    ensures { λ r. ⌜ r ≡ first (checkCount cells ∷ checkNodes cells nodes ∷ checkLong answer 3 ∷ []) ⌝ }
+    ensures { λ r. ⌜ r ≡ first (checkCount cells ∷ checkNodes cells nodes ∷ checkLong answer stepValues ∷ []) ⌝ }
 {
     then(
         check_count(cells),
-        then(check_nodes(cells, nodes), check_long(answer, 3)),
+        then(check_nodes(cells, nodes), check_long(answer, STEP_VALUES)),
     )
 }
 
@@ -37,7 +42,7 @@ pub fn step_shape(cells: usize, nodes: usize, answer: usize) -> Checked
 pub fn answer_room(masses: usize, answer: usize) -> usize
     ensures { λ r. ⌜ r ≡ answerRoom masses answer ⌝ }
 {
-    if 4 <= answer { masses } else { 0 }
+    if READ_VALUES <= answer { masses } else { 0 }
 }
 
 // Each of these puts the values of an accepted call and returns 0.
@@ -50,7 +55,7 @@ pub fn put_total(total: u32, answer: &mut [u64]) -> u64
 }
 
 pub fn put_repair(repair: Repair, answer: &mut [u64]) -> u64
-    requires { ⌜ 3 ≤ length (now answer) ⌝ }
+    requires { ⌜ stepValues ≤ length (now answer) ⌝ }
     ensures { λ r. ⌜ (r ≡ 0) × (now (answer .exit) ≡ written (now (answer .entry)) 0 (repairWords repair)) ⌝ }
 {
     answer[0] = repair.outcome as u64;
@@ -60,7 +65,7 @@ pub fn put_repair(repair: Repair, answer: &mut [u64]) -> u64
 }
 
 pub fn put_answer(cells: usize, repair: Repair, answer: &mut [u64]) -> u64
-    requires { ⌜ 4 ≤ length (now answer) ⌝ }
+    requires { ⌜ readValues ≤ length (now answer) ⌝ }
     ensures { λ r.
         ⌜ (r ≡ 0) × (now (answer .exit) ≡ written (now (answer .entry)) 0 (repairedWords (record { cells = cells; repair = repair }))) ⌝ }
 {

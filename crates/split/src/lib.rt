@@ -1,23 +1,10 @@
 // The operation Split: ClipAndAssuredSum on one group of items. Public: `split`; the checks and the work below it are in modules of their
 // own, for this crate alone. Relies on `walks`, `scratch_spec`, `caas_spec` and `numbers`.
-ghost use mathlib.Core.Path.{_≡_};
-ghost use Rattle.numbers.specs.Checks.{answered};
-ghost use Rattle.caas_spec.specs.Operation.{splitCall, splitTells, SplitContract};
+ghost use Rattle.caas_spec.specs.Operation.{splitCall, SplitContract};
 use caas_spec::SplitAnswer;
-use numbers::Checked;
 
 mod verdict;
 mod work;
-
-// The answer that tells a verdict.
-fn answer(verdict: Checked) -> SplitAnswer
-    ensures { λ r. ⌜ splitTells r ≡ answered verdict tt ⌝ }
-{
-    match verdict {
-        Checked::Pass => SplitAnswer::Done,
-        Checked::Fail { number, place } => SplitAnswer::Refused { number, place },
-    }
-}
 
 // Splits `total` among the items, each with a target, a low, a high and a weight, and writes their masses. A refused call writes nothing.
 pub fn split(
@@ -45,6 +32,5 @@ pub fn split(
         total,
         masses,
         &mut scratch,
-    );
-    answer(verdict)
+    )
 }

@@ -5,10 +5,10 @@ ghost use Prim.Native.Nat.{_+_, _*_, _≤_, _<_};
 ghost use lib.IntN.{pos};
 ghost use lib.ListN.{length};
 ghost use Rattle.numbers.specs.Lists.{atℤ, listTo};
-ghost use Rattle.numbers.specs.Checks.{after};
-ghost use Rattle.caas_spec.specs.Operation.{splitCall, splitMasses, splitVerdict, SplitFits};
+ghost use Rattle.caas_spec.specs.Operation.{splitCall, splitMasses, splitVerdict, SplitFits, SplitContract};
 ghost use Rattle.split.specs.Items.{ItemsLoaded};
 ghost use Rattle.scratch_spec.specs.Columns.{width, MASS, NEXT, num, Laid};
+use caas_spec::SplitAnswer;
 use numbers::Checked;
 use numbers::arith::above;
 use numbers::arith::stored_index;
@@ -99,7 +99,7 @@ fn split_items(
     copy_masses(s, masses);
 }
 
-// What a call leaves in the masses, by its verdict.
+// What a call leaves and answers, by its verdict: a refused one leaves the masses as they were.
 pub fn split_by(
     verdict: Checked,
     targets: &[i64],
@@ -109,17 +109,17 @@ pub fn split_by(
     total: i64,
     masses: &mut [i64],
     s: &mut [i64],
-)
+) -> SplitAnswer
     requires { ⌜ verdict ≡ splitVerdict (splitCall (now targets) (now lows) (now highs) (now weights) total (now masses)) ⌝ }
     requires { ⌜ width * 512 + width ≤ length (now s) ⌝ }
-    ensures { λ _.
-        ⌜ now (masses .exit) ≡ after verdict
-        (splitMasses
-        (splitCall (now (targets .entry)) (now (lows .entry)) (now (highs .entry)) (now (weights .entry)) total (now (masses .entry))))
-        (now (masses .entry)) ⌝ }
+    ensures { λ r.
+        ⌜ SplitContract
+        (splitCall (now (targets .entry)) (now (lows .entry)) (now (highs .entry)) (now (weights .entry)) total (now (masses .entry))) r
+        (now (masses .exit)) ⌝ }
 {
     if let Checked::Fail { number, place } = verdict {
-        return;
+        return SplitAnswer::Refused { number, place };
     }
     split_items(targets, lows, highs, weights, total, masses, s);
+    SplitAnswer::Done
 }

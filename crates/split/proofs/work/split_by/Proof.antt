@@ -5,9 +5,8 @@ use lib.IntN.{ℤ}
 use mir.Syntax.{w64}
 use mir.Val.{toZ, ofZ}
 use mir.ValLaws.{toZ-ofZ}
-use Rattle.numbers.specs.Checks.{after}
 use Rattle.caas_spec.specs.Operation.{SplitCall, splitCall, SplitFits, splitMasses}
-use Rattle.caas_spec.proofs.OperationLaws.{split-accepts}
+use Rattle.caas_spec.proofs.OperationLaws.{split-accepts, contract-done, contract-refused}
 use borrow.Author.Needs.{needs}
 use Rattle.split.proofs.work.split_by.Statement.{statement}
 use Rattle.split.proofs.work.split_by.Tie as tie
@@ -26,13 +25,14 @@ enum-known-verdict : tie.Need-enum-known-verdict
 enum-known-verdict c = search needs
 
 returns : tie.Need-returns
-returns c = ap (λ v. after v (splitMasses (callAt (c .before .before .before) (c .before .before .before .args .total))) (c .before .before .before .args .masses .now)) (sym (c .before .verdict .given .1))
+returns c = contract-refused (callAt (c .before .before .before) (c .before .before .before .args .total)) (sym (c .before .before .before .pre .0) ∙ c .before .verdict .given .1)
 
 enum-told : tie.Need-enum-told
 enum-told c = search needs
 
 split-items-requires : tie.Need-split-items-requires
-split-items-requires c κs = let s = c .before .before .before .before in
+split-items-requires c κs =
+    let s = c .before .before .before .before in
     let f = fits (c .before .before) in
     (subst (λ (z : ℤ). SplitFits (callAt s z)) (sym (total-is s)) f, omega (arith, f .few))
 
@@ -43,10 +43,10 @@ same-length-2 : tie.Need-same-length-2
 same-length-2 c = search needs
 
 returns-2 : tie.Need-returns-2
-returns-2 c = let s = c .before .before .before .before .before .before .before in
-    c .before .before .split-items .ensures
-    ∙ ap (λ (z : ℤ). splitMasses (callAt s z)) (total-is s)
-    ∙ ap (λ v. after v (splitMasses (callAt s (s .args .total))) (s .args .masses .now)) (sym (c .before .before .before .before .before .enum-told .given .1))
+returns-2 c =
+    let s = c .before .before .before .before .before .before .before in
+    contract-done (callAt s (s .args .total)) (sym (s .pre .0) ∙ c .before .before .before .before .before .enum-told .given .1)
+    (c .before .before .split-items .ensures ∙ ap (λ (z : ℤ). splitMasses (callAt s z)) (total-is s))
 
 pub split-by-spec : {M : Type 1} → statement M
 split-by-spec =
