@@ -51,7 +51,7 @@ module legzhuro
         end function legzhuro_write_field
 
         ! Reads an answer file of legzhuro_answer_file(cells) bytes: answer(1) is the number of cells, answer(2) the outcome,
-        ! answer(3) the total, answer(4) the change.
+        ! answer(3) the total, answer(4) the change, answer(5) the sum shared out; an older file shows 0 there, which tells nothing.
         function legzhuro_read_answer(file, file_len, masses, masses_len, answer, answer_len) result(returned) &
             bind(c, name='legzhuro_read_answer')
             import :: c_int8_t, c_int32_t, c_int64_t, c_size_t
@@ -62,14 +62,14 @@ module legzhuro
             integer(c_int64_t) :: returned
         end function legzhuro_read_answer
 
-        ! Splits a total among items.
+        ! Splits a total among items: deficit(1) is what is missing or, below 0, too much.
         function legzhuro_split(targets, targets_len, lows, lows_len, highs, highs_len, weights, weights_len, total, masses, &
-                                masses_len) result(returned) bind(c, name='legzhuro_split')
+                                masses_len, deficit, deficit_len) result(returned) bind(c, name='legzhuro_split')
             import :: c_int64_t, c_size_t
-            integer(c_size_t), value :: targets_len, lows_len, highs_len, weights_len, masses_len
+            integer(c_size_t), value :: targets_len, lows_len, highs_len, weights_len, masses_len, deficit_len
             integer(c_int64_t), intent(in) :: targets(targets_len), lows(lows_len), highs(highs_len), weights(weights_len)
             integer(c_int64_t), value :: total
-            integer(c_int64_t), intent(inout) :: masses(masses_len)
+            integer(c_int64_t), intent(inout) :: masses(masses_len), deficit(deficit_len)
             integer(c_int64_t) :: returned
         end function legzhuro_split
 
@@ -82,7 +82,8 @@ module legzhuro
             integer(c_int64_t) :: returned
         end function legzhuro_open
 
-        ! Steps a kept field: answer(1) is the outcome, answer(2) the new total, answer(3) the change.
+        ! Steps a kept field: answer(1) is the outcome, answer(2) the new total, answer(3) the change, answer(4) the sum shared
+        ! out.
         function legzhuro_step(total, kept, kept_len, source, targets, targets_len, lows, lows_len, highs, highs_len, safe_lows, &
                                safe_lows_len, safe_highs, safe_highs_len, weights, weights_len, parents, parents_len, scratch, &
                                scratch_len, answer, answer_len) result(returned) bind(c, name='legzhuro_step')

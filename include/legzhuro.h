@@ -58,7 +58,9 @@ extern "C" {
 
 /* Reads a field file's bytes, repairs the masses of its cells so that they add up to its total M, and writes the answer file to the front
  * of `answer`; bytes past the file are left alone. 3072 bytes are enough for every answer. Both formats are blocks of 512 bytes with a number
- * and check words; the scope paper has them ('Files'). legzhuro_write_field makes a field file, legzhuro_read_answer takes an answer apart.
+ * and check words; the scope paper has them ('Files'). In block 1 of an answer the two words that follow the change, spare in that paper,
+ * hold the sum shared out (see legzhuro_step), low word first. legzhuro_write_field makes a field file, legzhuro_read_answer takes an answer
+ * apart.
  * Refusals: those of reading (14; 15, 16, 1, 2 of block 1; 14; 15, 16 of later blocks), then those of the repair (4 to 8), then 3 (`answer`
  * is too short for the file). */
 uint32_t legzhuro_reconstruct(const uint8_t *file, size_t file_len, uint8_t *answer, size_t answer_len);
@@ -72,22 +74,25 @@ uint64_t legzhuro_write_field(size_t cells, size_t nodes, uint32_t total, const 
                               const uint32_t *safe_highs, size_t safe_highs_len, const uint32_t *weights, size_t weights_len,
                               const uint32_t *parents, size_t parents_len, uint8_t *buffer, size_t buffer_len);
 
-/* Reads an answer file's bytes: masses[c] is the mass of cell c, answer[0] the number of cells, answer[1] the outcome, answer[2] the total
- * and answer[3] the change, as in legzhuro_step; later entries of both lists are left alone. `file_len` must be the file's own length,
- * LEGZHURO_ANSWER_FILE of its cells; their number stands in bytes 8 and 9, low byte first, of a field file and of its answer. 512 masses are
- * enough for every answer.
- * Refusals: 14; 15, 16, 1 of block 1; 14; 3 (`masses` is shorter than the number of cells, or `answer` has fewer than four entries); 15, 16 of
+/* Reads an answer file's bytes: masses[c] is the mass of cell c, answer[0] the number of cells, answer[1] the outcome, answer[2] the total,
+ * answer[3] the change and answer[4] the sum shared out, as in legzhuro_step; later entries of both lists are left alone. An older file, from
+ * before answer files had the sum shared out, shows 0 in its place and is read so; this 0 tells nothing. `file_len` must be the file's own
+ * length, LEGZHURO_ANSWER_FILE of its cells; their number stands in bytes 8 and 9, low byte first, of a field file and of its answer. 512
+ * masses are enough for every answer.
+ * Refusals: 14; 15, 16, 1 of block 1; 14; 3 (`masses` is shorter than the number of cells, or `answer` has fewer than five entries); 15, 16 of
  * later blocks in order (place: the block); 12. */
 uint64_t legzhuro_read_answer(const uint8_t *file, size_t file_len, uint32_t *masses, size_t masses_len, uint64_t *answer,
                               size_t answer_len);
 
 /* Splits `total` among items: item i would like targets[i], must get a mass between lows[i] and highs[i], and shares what is missing or too
- * much by weights[i] first, then by the room that is left. masses[i] is what it gets; the masses add up to the total. The number of items is
- * that of the targets, 1 to 512; every other list must have the same length. Lows and weights must not be below 0, and highs and weights each
- * add up to at most 2147483647.
- * Refusals: 1, 3, 5 (place: the first item), 6, 7, 8. */
+ * much by weights[i] first, then by the room that is left. masses[i] is what it gets; the masses add up to the total. deficit[0] is what is
+ * missing or, below 0, too much: the total minus the sum of the targets, each clipped into its low and high; later entries of `deficit` are
+ * left alone. The number of items is that of the targets, 1 to 512; every other list but `deficit` must have the same length. Lows and
+ * weights must not be below 0, and highs and weights each add up to at most 2147483647.
+ * Refusals: 1, 3 (also `deficit` without an entry), 5 (place: the first item), 6, 7, 8. */
 uint64_t legzhuro_split(const int64_t *targets, size_t targets_len, const int64_t *lows, size_t lows_len, const int64_t *highs,
-                        size_t highs_len, const int64_t *weights, size_t weights_len, int64_t total, int64_t *masses, size_t masses_len);
+                        size_t highs_len, const int64_t *weights, size_t weights_len, int64_t total, int64_t *masses, size_t masses_len,
+                        int64_t *deficit, size_t deficit_len);
 
 /* Opens a kept field: kept[c] is the mass of cell c, of 1 to 512 cells. answer[0] is their sum, the total that the first step is given; later
  * entries of `answer` are left alone.
@@ -102,8 +107,10 @@ uint64_t legzhuro_open(const uint32_t *kept, size_t kept_len, uint64_t *answer, 
  * five lists must have one entry for each cell, `scratch` six or more for each node.
  * After an accepted step `kept` holds the new masses; the first six entries of `scratch` for each node are 0, later ones are left alone;
  * answer[0] is the outcome (0: within the bounds, 1: between safe low and low, 2: between high and safe high), answer[1] the new total,
- * answer[2] the change, the sum over cells of the absolute mass minus target; later entries of `answer` are left alone.
- * Refusals: 1, 2, 3 (also `answer` with fewer than three entries), 4 (place: the smallest node that breaks a rule), 5 (place: the first
+ * answer[2] the change, the sum over cells of the absolute mass minus target, answer[3] the sum shared out, that over inner nodes of the size
+ * of what is missing or too much when the node's mass is split among its children (deficit[0] of legzhuro_split), 0 for a field of one node;
+ * later entries of `answer` are left alone.
+ * Refusals: 1, 2, 3 (also `answer` with fewer than four entries), 4 (place: the smallest node that breaks a rule), 5 (place: the first
  * cell), 6, 7, 12, 13, 8. */
 uint64_t legzhuro_step(uint32_t total, uint32_t *kept, size_t kept_len, int32_t source, const int32_t *targets, size_t targets_len,
                        const uint32_t *lows, size_t lows_len, const uint32_t *highs, size_t highs_len, const uint32_t *safe_lows,

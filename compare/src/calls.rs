@@ -17,6 +17,8 @@ extern "C" {
         total: i64,
         masses: *mut i64,
         masses_len: usize,
+        deficit: *mut i64,
+        deficit_len: usize,
     ) -> u64;
     fn legzhuro_open(kept: *const u32, kept_len: usize, answer: *mut u64, answer_len: usize) -> u64;
     fn legzhuro_step(
@@ -92,7 +94,7 @@ pub fn reconstruct(file: &[u8], answer: &mut [u8]) -> u32 {
     unsafe { legzhuro_reconstruct(file.as_ptr(), file.len(), answer.as_mut_ptr(), answer.len()) }
 }
 
-pub fn split(targets: &[i64], lows: &[i64], highs: &[i64], weights: &[i64], total: i64, masses: &mut [i64]) -> u64 {
+pub fn split(targets: &[i64], lows: &[i64], highs: &[i64], weights: &[i64], total: i64, masses: &mut [i64], deficit: &mut [i64]) -> u64 {
     unsafe {
         legzhuro_split(
             targets.as_ptr(),
@@ -106,6 +108,8 @@ pub fn split(targets: &[i64], lows: &[i64], highs: &[i64], weights: &[i64], tota
             total,
             masses.as_mut_ptr(),
             masses.len(),
+            deficit.as_mut_ptr(),
+            deficit.len(),
         )
     }
 }

@@ -3,8 +3,9 @@
 
 use crate::calls;
 use crate::from_c::{self, returned};
-use crate::operations::{self, Refusal, LIMIT};
+use crate::operations::{Refusal, LIMIT};
 use crate::random::{self, Random};
+use crate::shared::shared_by_masses;
 use crate::tally::Tally;
 use crate::tree::{Field, Workspace};
 
@@ -52,19 +53,33 @@ pub struct SplitCall {
     pub weights: Vec<i64>,
     pub total: i64,
     pub masses: Vec<i64>,
+    pub deficit: Vec<i64>,
 }
 
-/// Runs both sides; returns the masses of the second implementation.
-pub fn compare_split(tally: &mut Tally, call: &SplitCall) -> (u64, Vec<i64>) {
-    let (mut mine, mut theirs) = (call.masses.clone(), call.masses.clone());
-    let result = operations::split(&call.targets, &call.lows, &call.highs, &call.weights, call.total, &mut mine);
-    let got = calls::split(&call.targets, &call.lows, &call.highs, &call.weights, call.total, &mut theirs);
+/// The value returned and the lists that a split may write, at exit.
+#[derive(Debug, PartialEq)]
+pub struct SplitExit {
+    pub returned: u64,
+    pub masses: Vec<i64>,
+    pub deficit: Vec<i64>,
+}
+
+impl SplitExit {
+    fn entry(call: &SplitCall) -> SplitExit {
+        SplitExit { returned: 0, masses: call.masses.clone(), deficit: call.deficit.clone() }
+    }
+}
+
+/// Runs both sides; returns the exit of the second implementation.
+pub fn compare_split(tally: &mut Tally, call: &SplitCall) -> SplitExit {
+    let (mut mine, mut theirs) = (SplitExit::entry(call), SplitExit::entry(call));
+    let SplitCall { targets, lows, highs, weights, total, .. } = call;
+    let result = from_c::split(targets, lows, highs, weights, *total, &mut mine.masses, &mut mine.deficit);
+    mine.returned = returned(result);
+    theirs.returned = calls::split(targets, lows, highs, weights, *total, &mut theirs.masses, &mut theirs.deficit);
     tally.answer(&result);
-    let expected = returned(result);
-    tally.input((expected, &mine) == (got, &theirs), || {
-        format!("split {call:?}: second implementation {expected:#x} {mine:?}, library {got:#x} {theirs:?}")
-    });
-    (expected, mine)
+    tally.input(mine == theirs, || format!("split {call:?}: second implementation {mine:?}, library {theirs:?}"));
+    mine
 }
 
 fn any_number(random: &mut Random) -> i64 {
@@ -87,7 +102,7 @@ fn some_list<'a>(random: &mut Random, call: &'a mut SplitCall) -> &'a mut Vec<i6
 
 fn break_split(random: &mut Random, call: &mut SplitCall) {
     let value = any_number(random);
-    match random.below(10) {
+    match random.below(11) {
         0 | 1 => call.total = value,
         2 => stretch(random, &mut call.targets, value),
         3 => {
@@ -101,6 +116,7 @@ fn break_split(random: &mut Random, call: &mut SplitCall) {
             let list = some_list(random, call);
             stretch(random, list, value);
         }
+        6 => call.deficit.clear(),
         _ => {
             // One entry, or most of them.
             let list = some_list(random, call);
@@ -117,6 +133,7 @@ fn make_split(random: &mut Random) -> SplitCall {
     let cells = random::cell_count(random);
     let field = random::field(random, cells);
     let wide = |list: &[u32]| list.iter().map(|&value| i64::from(value)).collect::<Vec<i64>>();
+    let entries = random.pick(&[1, 1, 1, 2, 5]);
     let mut call = SplitCall {
         targets: field.targets.iter().map(|&target| i64::from(target)).collect(),
         lows: wide(&field.lows),
@@ -124,6 +141,7 @@ fn make_split(random: &mut Random) -> SplitCall {
         weights: wide(&field.weights),
         total: i64::from(random::total(random, &field)),
         masses: any_bits(random, cells, |bits| bits as i64),
+        deficit: any_bits(random, entries, |bits| bits as i64),
     };
     if random.chance(20) {
         call.targets.iter_mut().for_each(|target| *target = any_number(random));
@@ -212,6 +230,12 @@ pub fn compare_step(tally: &mut Tally, workspace: &mut Workspace, call: &StepCal
     theirs.returned = calls::step(call.total, &mut theirs.kept, call.source, &lists, &mut theirs.scratch, &mut theirs.answer);
     tally.outcome(&result.map(|()| mine.answer[0] as u32));
     tally.input(mine == theirs, || format!("step {call:?}: second implementation {mine:?}, library {theirs:?}"));
+    if (mine.returned, theirs.returned) == (0, 0) {
+        let shared = shared_by_masses(&call.field, theirs.answer[0], &theirs.kept);
+        if theirs.answer[3] != shared {
+            tally.difference(format!("step {call:?}: by its masses {shared} is shared out, library {theirs:?}"));
+        }
+    }
     (mine, theirs)
 }
 
@@ -231,7 +255,7 @@ pub fn make_step(random: &mut Random, field: Field, wanted: u32) -> StepCall {
         kept: random::partition(random, total, field.targets.len()),
         source: (i64::from(wanted) - i64::from(total)) as i32,
         scratch: any_bits(random, 6 * field.parents.len() + spare, |bits| bits as i64),
-        answer: any_bits(random, 3 + longer, |bits| bits),
+        answer: any_bits(random, 4 + longer, |bits| bits),
         field,
     }
 }
@@ -279,7 +303,7 @@ pub fn break_step(random: &mut Random, call: &mut StepCall) {
         13 => match random.below(3) {
             0 => call.scratch.truncate((6 * call.field.parents.len()).saturating_sub(1)),
             1 => call.scratch.truncate(random.index(call.scratch.len() + 1)),
-            _ => call.answer.truncate(random.index(3)),
+            _ => call.answer.truncate(random.index(4)),
         },
         14 => break_kept(random, &mut call.kept),
         15 => call.total = call.total.wrapping_add(random.pick(&[1, 2, u32::MAX, 1 << 31])),

@@ -10,6 +10,7 @@ use crate::from_c::{self, answer_values, returned};
 use crate::listing::listing;
 use crate::operations::{reconstruct, Refusal};
 use crate::random::{self, Random};
+use crate::shared::shared_by_masses;
 use crate::tally::Tally;
 use crate::tree::{Field, Repair, Workspace};
 use std::io::{Read, Write};
@@ -205,12 +206,15 @@ pub fn writes(tally: &mut Tally, random: &mut Random, count: u64) {
 
 // ---- reading an answer ----
 
-/// An answer file, sound or damaged. Its total may be any of 32 bits.
+/// An answer file, sound or damaged. Its total may be any of 32 bits, its change and the sum shared out any of 64; an older file has 0 for
+/// that sum.
 fn make_answer(random: &mut Random) -> Vec<u8> {
     let cells = random::cell_count(random);
     let total = if random.chance(30) { random.pick(&[0, 1, 1000, u32::MAX]) } else { random.bits() as u32 };
-    let change = random.bits() >> random.below(64);
-    let repair = Repair { outcome: random.below(3) as u32, total, change };
+    let any = |random: &mut Random| random.bits() >> random.below(64);
+    let (change, older) = (any(random), random.chance(20));
+    let shared = if older { 0 } else { any(random) };
+    let repair = Repair { outcome: random.below(3) as u32, total, change, shared };
     let masses = random::partition(random, total, cells);
     let mut file = vec![0; answer_file_length(cells)];
     write_answer(cells, repair, &masses, &mut file).expect("an answer that adds up");
@@ -237,7 +241,7 @@ fn make_read(random: &mut Random) -> ReadCall {
         8 => needed.saturating_sub(1),
         _ => random.index(needed + 1),
     };
-    let entries = random.pick(&[4, 4, 4, 4, 4, 4, 4, 4, 5, 7, 3, 0]);
+    let entries = random.pick(&[5, 5, 5, 5, 5, 5, 5, 5, 6, 8, 4, 0]);
     ReadCall { file, masses: any_bits(random, length, |bits| bits as u32), answer: any_bits(random, entries, |bits| bits) }
 }
 
@@ -262,7 +266,7 @@ pub fn reads(tally: &mut Tally, random: &mut Random, count: u64) {
         let (result, ReadCall { masses, answer, .. }) = compare_read(tally, &call);
         if result.is_ok() {
             let mut again = vec![0; call.file.len()];
-            let repair = Repair { outcome: answer[1] as u32, total: answer[2] as u32, change: answer[3] };
+            let repair = Repair { outcome: answer[1] as u32, total: answer[2] as u32, change: answer[3], shared: answer[4] };
             let written = write_answer(answer[0] as usize, repair, &masses, &mut again);
             if written != Ok(call.file.len()) || again != call.file {
                 tally.difference(format!("read {call:?}: written again it is {written:?} {again:?}"));
@@ -275,11 +279,11 @@ pub fn reads(tally: &mut Tally, random: &mut Random, count: u64) {
 
 /// What the library tells of a field's answer, and the masses, by files alone: it writes the field file, repairs it and reads the answer
 /// file. A call that is refused gives its number.
-pub fn repaired_by_files(field: &Field, total: u32) -> Result<([u64; 4], Vec<u32>), u32> {
+pub fn repaired_by_files(field: &Field, total: u32) -> Result<([u64; 5], Vec<u32>), u32> {
     let (cells, nodes) = (field.targets.len(), field.parents.len());
     let mut file = vec![1; field_file_length(cells, nodes)];
     let mut answer_file = vec![1; answer_file_length(cells)];
-    let (mut masses, mut answer) = (vec![7; cells], [7; 4]);
+    let (mut masses, mut answer) = (vec![7; cells], [7; 5]);
     let accept = |number: u32| if number == 0 { Ok(()) } else { Err(number) };
     accept(calls::write_field(cells, nodes, total, &field.lists(), &mut file) as u32)?;
     accept(calls::reconstruct(&file, &mut answer_file))?;
@@ -304,5 +308,11 @@ pub fn round_trips(tally: &mut Tally, random: &mut Random, count: u64) {
         let expected = told.map(|answer| (answer, masses)).map_err(|refusal| refusal.number);
         let got = repaired_by_files(&field, total);
         tally.input(expected == got, || format!("files of {field:?}, M {total}: second implementation {expected:?}, library {got:?}"));
+        if let (Ok(_), Ok(([_, outcome, _, _, told], masses))) = (&expected, &got) {
+            let shared = shared_by_masses(&field, *outcome, masses);
+            if *told != shared {
+                tally.difference(format!("files of {field:?}, M {total}: by the masses {shared} is shared out, library {told}"));
+            }
+        }
     }
 }

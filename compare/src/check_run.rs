@@ -63,7 +63,7 @@ fn good_call(random: &mut Random, kept: &[u32], total: u32) -> StepCall {
         kept: kept.to_vec(),
         source: (i64::from(wanted) - i64::from(total)) as i32,
         scratch: vec![-1; 6 * field.parents.len() + random.index(3)],
-        answer: vec![u64::MAX; 3],
+        answer: vec![u64::MAX; 4],
         field,
     }
 }

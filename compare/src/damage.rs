@@ -182,15 +182,17 @@ fn move_mass(random: &mut Random, file: &mut [u8], cells: usize) {
     }
 }
 
-/// Another outcome, a total near the one in an answer, or masses that may miss it.
+/// Another outcome, a total near the one in an answer, another change, sum shared out or first spare word, or masses that may miss the
+/// total.
 fn change_answer(random: &mut Random, file: &mut [u8], cells: usize) {
     if file.len() < BLOCK {
         return;
     }
     let total = word(file, 4);
-    match random.below(3) {
+    match random.below(4) {
         0 => change_first_block(file, 3, random.pick(&[0, 1, 2, 3, 4, 1 << 31, u32::MAX])),
         1 => change_first_block(file, 4, random.pick(&[0, total.wrapping_add(1), total.wrapping_sub(1), total ^ 1 << 31, u32::MAX])),
+        2 => change_first_block(file, 5 + random.index(5), random.pick(&[0, 1, 1 << 31, u32::MAX])),
         _ => move_mass(random, file, cells),
     }
 }

@@ -1,5 +1,5 @@
-//! Blocks, field files and answer files, after the section "Files" of 01 and ticket 1 of 02, and the call on a field file's bytes. Written
-//! from the papers alone; shares no code with the library.
+//! Blocks, field files and answer files, after the section "Files" of 01 and tickets 1 and 2 of 02, and the call on a field file's bytes.
+//! Written from the papers alone; shares no code with the library.
 
 use crate::operations::{check_cells, check_counts, reconstruct, refuse, refuse_at, Refusal, MAX_CELLS, MAX_NODES};
 use crate::tree::{sum, Field, Lists, Repair, Workspace};
@@ -92,6 +92,16 @@ fn cell_position(cell: usize) -> (usize, usize) {
 /// Block number and word of entry `index` of a list with 125 entries to a block.
 fn list_position(first_block: usize, index: usize) -> (usize, usize) {
     (first_block + index / PAYLOAD, 1 + index % PAYLOAD)
+}
+
+/// The words of a number of 64 bits, low word first.
+fn two_words(number: u64) -> [u32; 2] {
+    [number as u32, (number >> 32) as u32]
+}
+
+/// The number of the two words from `index` on.
+fn take_two_words(block: &[u8], index: usize) -> u64 {
+    u64::from(word(block, index)) | u64::from(word(block, index + 1)) << 32
 }
 
 fn put_words(block: &mut [u8], first: usize, words: &[u32]) {
@@ -283,8 +293,9 @@ pub fn write_answer(cells: usize, repair: Repair, masses: &[u32], buffer: &mut [
     check_masses(masses, repair.total)?;
     let file = &mut buffer[..length];
     file.fill(0);
-    let change = repair.change;
-    put_words(file, 1, &[MARK, cells as u32, repair.outcome, repair.total, change as u32, (change >> 32) as u32]);
+    put_words(file, 1, &[MARK, cells as u32, repair.outcome, repair.total]);
+    put_words(file, 5, &two_words(repair.change));
+    put_words(file, 7, &two_words(repair.shared));
     put_list(file, 2, masses);
     number_blocks(file);
     Ok(length)
@@ -292,10 +303,11 @@ pub fn write_answer(cells: usize, repair: Repair, masses: &[u32], buffer: &mut [
 
 /// The checks of reading up to the file's length.
 pub fn check_answer_header(file: &[u8]) -> Result<AnswerHeader, Refusal> {
-    check_first_block(file, MAX_ANSWER_FILE, 6)?;
-    let change = u64::from(word(file, 5)) | u64::from(word(file, 6)) << 32;
-    let header = AnswerHeader { cells: word(file, 2) as usize, repair: Repair { outcome: word(file, 3), total: word(file, 4), change } };
-    check_outcome(header.repair.outcome)?;
+    check_first_block(file, MAX_ANSWER_FILE, 8)?;
+    let (change, shared) = (take_two_words(file, 5), take_two_words(file, 7));
+    let repair = Repair { outcome: word(file, 3), total: word(file, 4), change, shared };
+    let header = AnswerHeader { cells: word(file, 2) as usize, repair };
+    check_outcome(repair.outcome)?;
     check_cells(header.cells)?;
     check_file_length(file, answer_file_length(header.cells))?;
     Ok(header)

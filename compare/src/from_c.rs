@@ -2,7 +2,7 @@
 //! and number and place come back in one value. Shares no code with the library.
 
 use crate::files::{check_answer_header, AnswerHeader};
-use crate::operations::{check_counts, refuse, Refusal};
+use crate::operations::{check_cells, check_counts, refuse, Refusal};
 use crate::tree::{Lists, Workspace};
 use crate::{doubles, files, operations};
 
@@ -19,6 +19,22 @@ fn check_length<T>(list: &[T], least: usize) -> Result<(), Refusal> {
     if list.len() < least {
         return refuse(3);
     }
+    Ok(())
+}
+
+/// The deficit's length is checked with the other lengths, after 1.
+pub fn split(
+    targets: &[i64],
+    lows: &[i64],
+    highs: &[i64],
+    weights: &[i64],
+    total: i64,
+    masses: &mut [i64],
+    deficit: &mut [i64],
+) -> Result<(), Refusal> {
+    check_cells(targets.len())?;
+    check_length(deficit, 1)?;
+    deficit[0] = operations::split(targets, lows, highs, weights, total, masses)?;
     Ok(())
 }
 
@@ -39,9 +55,9 @@ pub fn step(
     answer: &mut [u64],
 ) -> Result<(), Refusal> {
     check_counts(lists.targets.len(), lists.parents.len())?;
-    check_length(answer, 3)?;
+    check_length(answer, 4)?;
     let repair = operations::step(workspace, total, kept, source, lists, scratch)?;
-    answer[..3].copy_from_slice(&[u64::from(repair.outcome), u64::from(repair.total), repair.change]);
+    answer[..4].copy_from_slice(&[u64::from(repair.outcome), u64::from(repair.total), repair.change, repair.shared]);
     Ok(())
 }
 
@@ -63,17 +79,17 @@ pub fn write_field(cells: usize, nodes: usize, total: u32, lists: &Lists, buffer
     Ok(())
 }
 
-/// What is told of an answer: cells, outcome, total and change.
-pub fn answer_values(header: AnswerHeader) -> [u64; 4] {
+/// What is told of an answer: cells, outcome, total, change and the sum shared out.
+pub fn answer_values(header: AnswerHeader) -> [u64; 5] {
     let repair = header.repair;
-    [header.cells as u64, u64::from(repair.outcome), u64::from(repair.total), repair.change]
+    [header.cells as u64, u64::from(repair.outcome), u64::from(repair.total), repair.change, repair.shared]
 }
 
 /// The answer's length is checked with that of the masses, after block 1.
 pub fn read_answer(file: &[u8], masses: &mut [u32], answer: &mut [u64]) -> Result<(), Refusal> {
     check_answer_header(file)?;
-    check_length(answer, 4)?;
+    check_length(answer, 5)?;
     let header = files::read_answer(file, masses)?;
-    answer[..4].copy_from_slice(&answer_values(header));
+    answer[..5].copy_from_slice(&answer_values(header));
     Ok(())
 }

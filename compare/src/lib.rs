@@ -1,7 +1,7 @@
-//! A second implementation of the paper 01 and of ticket 1 of 02 (`split`, `tree`, `operations`, `doubles`, `files`, `listing`), written
-//! from the papers alone and sharing no code with the proved library, and, with the feature `library`, what compares the library with it:
-//! the calls from C (`calls`, and `from_c` for the second implementation's side), inputs (`random`, `damage`), and the checks that the
-//! comparison program runs (`tally` and `check_...`).
+//! A second implementation of the paper 01 and of tickets 1 and 2 of 02 (`split`, `tree`, `operations`, `doubles`, `files`, `listing`),
+//! written from the papers alone and sharing no code with the proved library, and, with the feature `library`, what compares the library
+//! with it: the calls from C (`calls`, and `from_c` for the second implementation's side), inputs (`random`, `damage`), and the checks that
+//! the comparison program runs (`tally`, `shared` and `check_...`).
 
 #[cfg(feature = "library")]
 pub mod calls;
@@ -22,6 +22,8 @@ pub mod from_c;
 pub mod listing;
 pub mod operations;
 pub mod random;
+#[cfg(feature = "library")]
+pub mod shared;
 pub mod split;
 pub mod tally;
 pub mod tree;

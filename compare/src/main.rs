@@ -10,8 +10,8 @@ use std::path::Path;
 
 const SEED: u64 = 20190525;
 
-// The refusals that a call can give, after the section "Operations and what each turns down" of 01 and ticket 1 of 02, in its order of
-// checks. From C a list that is too short for what a call gives counts under 3.
+// The refusals that a call can give, after the section "Operations and what each turns down" of 01 and tickets 1 and 2 of 02, in its order
+// of checks. From C a list that is too short for what a call gives counts under 3.
 const SPLIT: [usize; 6] = [1, 3, 5, 6, 7, 8];
 const OPEN: [usize; 3] = [3, 1, 13];
 const STEP: [usize; 10] = [1, 2, 3, 4, 5, 6, 7, 12, 13, 8];

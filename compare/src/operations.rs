@@ -1,5 +1,5 @@
-//! Split, Reconstruct, Open and Step with all that they turn down, after the section "Operations and what each turns down" of 01. Checks
-//! stand in the paper's order. Written from 01 alone; shares no code with the library.
+//! Split, Reconstruct, Open and Step with all that they turn down, after the section "Operations and what each turns down" of 01 and ticket
+//! 2 of 02. Checks stand in 01's order. Written from the papers alone; shares no code with the library.
 
 use crate::split::{share_out, Item};
 use crate::tree::{broken_node, repair, sum, Lists, Repair, Workspace};
@@ -29,7 +29,8 @@ fn wide_sum(list: &[i64]) -> i128 {
     list.iter().map(|&value| i128::from(value)).sum()
 }
 
-pub fn split(targets: &[i64], lows: &[i64], highs: &[i64], weights: &[i64], total: i64, masses: &mut [i64]) -> Result<(), Refusal> {
+/// Returns d.
+pub fn split(targets: &[i64], lows: &[i64], highs: &[i64], weights: &[i64], total: i64, masses: &mut [i64]) -> Result<i64, Refusal> {
     let count = targets.len();
     check_cells(count)?;
     if [lows.len(), highs.len(), weights.len(), masses.len()] != [count; 4] {
@@ -49,11 +50,11 @@ pub fn split(targets: &[i64], lows: &[i64], highs: &[i64], weights: &[i64], tota
     }
     let mut items: Vec<Item> =
         (0..count).map(|item| Item { target: targets[item], low: lows[item], high: highs[item], weight: weights[item], mass: 0 }).collect();
-    share_out(&mut items, total);
+    let difference = share_out(&mut items, total);
     for (mass, item) in masses.iter_mut().zip(&items) {
         *mass = item.mass;
     }
-    Ok(())
+    Ok(difference)
 }
 
 /// Check 1, of cells or items.

@@ -1,5 +1,5 @@
-//! One split of a total among items, after the section "One split" of 01, steps 1 to 5. Written from 01 alone; shares no code with the
-//! library.
+//! One split of a total among items, after the section "One split" of 01, steps 1 to 5, and ticket 2 of 02. Written from the papers alone;
+//! shares no code with the library.
 //!
 //! Once an operation's checks have passed, highs and weights each add up to at most 2147483647 and the total lies between the sums of the
 //! lows and the highs. Every product below is then under 2^62, so 64 bits are enough. Targets may be any 64-bit numbers: they are only
@@ -15,8 +15,8 @@ pub struct Item {
     pub mass: i64,
 }
 
-/// Gives each item its mass.
-pub fn share_out(items: &mut [Item], total: i64) {
+/// Gives each item its mass. Returns d, signed.
+pub fn share_out(items: &mut [Item], total: i64) -> i64 {
     let difference = total - clip(items);
     if difference > 0 {
         let left = by_weights(items, difference, 1);
@@ -25,6 +25,7 @@ pub fn share_out(items: &mut [Item], total: i64) {
         let left = by_weights(items, -difference, -1);
         by_capacities(items, left, -1);
     }
+    difference
 }
 
 /// Step 1: every mass is the clipped target. Returns their sum.

@@ -1,5 +1,5 @@
-//! The tree of a field and the masses of its cells, after the sections "The field" and "The whole tree" of 01. Written from 01 alone;
-//! shares no code with the library.
+//! The tree of a field and the masses of its cells, after the sections "The field" and "The whole tree" of 01 and ticket 2 of 02. Written
+//! from the papers alone; shares no code with the library.
 
 use crate::split::{share_out, Item};
 
@@ -76,6 +76,8 @@ pub struct Repair {
     pub outcome: u32,
     pub total: u32,
     pub change: u64,
+    /// The sum of the sizes of d over all inner nodes.
+    pub shared: u64,
 }
 
 /// Working space that is used again from call to call.
@@ -171,20 +173,21 @@ fn link_children(workspace: &mut Workspace, parents: &[u32]) {
     }
 }
 
-/// Splits a node's mass among its children.
-fn split_node(workspace: &mut Workspace, node: usize) {
+/// Splits a node's mass among its children. Returns the split's d.
+fn split_node(workspace: &mut Workspace, node: usize) -> i64 {
     workspace.children.clear();
     let mut child = workspace.first_child[node];
     while child != NONE {
         workspace.children.push(workspace.nodes[child as usize]);
         child = workspace.next_sibling[child as usize];
     }
-    share_out(&mut workspace.children, workspace.nodes[node].mass);
+    let difference = share_out(&mut workspace.children, workspace.nodes[node].mass);
     let mut child = workspace.first_child[node];
     for item in &workspace.children {
         workspace.nodes[child as usize].mass = item.mass;
         child = workspace.next_sibling[child as usize];
     }
+    difference
 }
 
 /// The whole tree, for lists and a total that have passed every check. Writes the masses of the cells.
@@ -194,13 +197,14 @@ pub fn repair(workspace: &mut Workspace, lists: &Lists, total: u32, masses: &mut
     add_up_nodes(workspace, lists, outcome);
     link_children(workspace, lists.parents);
     workspace.nodes[nodes - 1].mass = i64::from(total);
+    let mut shared = 0;
     for node in (cells..nodes).rev() {
-        split_node(workspace, node);
+        shared += split_node(workspace, node).unsigned_abs();
     }
     let mut change = 0;
     for (mass, item) in masses.iter_mut().zip(&workspace.nodes[..cells]) {
         *mass = item.mass as u32;
         change += (item.mass - item.target).unsigned_abs();
     }
-    Repair { outcome, total, change }
+    Repair { outcome, total, change, shared }
 }

@@ -37,15 +37,15 @@ static int open_field(const uint32_t *kept, uint64_t *total) {
 
 static int step(uint64_t *total, uint32_t *kept, int32_t source) {
     static int64_t scratch[LEGZHURO_SCRATCH * NODES];
-    uint64_t answer[3];
+    uint64_t answer[4];
 
     printf("step %" PRId32 ":", source);
     uint64_t returned =
         legzhuro_step((uint32_t)*total, kept, CELLS, source, targets, CELLS, lows, CELLS, highs, CELLS, safe_lows, CELLS, safe_highs, CELLS,
-                      weights, CELLS, parents, NODES, scratch, LEGZHURO_SCRATCH * NODES, answer, 3);
+                      weights, CELLS, parents, NODES, scratch, LEGZHURO_SCRATCH * NODES, answer, 4);
     if (returned != 0) return refused(returned);
     *total = answer[1];
-    printf(" outcome %" PRIu64 " total %" PRIu64 " change %" PRIu64, answer[0], answer[1], answer[2]);
+    printf(" outcome %" PRIu64 " total %" PRIu64 " change %" PRIu64 " shared %" PRIu64, answer[0], answer[1], answer[2], answer[3]);
     print_masses(kept, CELLS);
     return 0;
 }
@@ -69,14 +69,15 @@ static int convert(void) {
 static int repair(const uint8_t *file, size_t length) {
     static uint8_t answer_file[LEGZHURO_MAX_ANSWER_FILE];
     static uint32_t masses[LEGZHURO_MAX_CELLS];
-    uint64_t answer[4];
+    uint64_t answer[5];
 
     uint32_t number = legzhuro_reconstruct(file, length, answer_file, sizeof answer_file);
     if (number != 0) return refused(number);
     size_t cells = file[8] + 256u * file[9]; /* where a field file has its number of cells */
-    uint64_t returned = legzhuro_read_answer(answer_file, LEGZHURO_ANSWER_FILE(cells), masses, LEGZHURO_MAX_CELLS, answer, 4);
+    uint64_t returned = legzhuro_read_answer(answer_file, LEGZHURO_ANSWER_FILE(cells), masses, LEGZHURO_MAX_CELLS, answer, 5);
     if (returned != 0) return refused(returned);
-    printf(" outcome %" PRIu64 " cells %" PRIu64 " total %" PRIu64 " change %" PRIu64, answer[1], answer[0], answer[2], answer[3]);
+    printf(" outcome %" PRIu64 " cells %" PRIu64 " total %" PRIu64 " change %" PRIu64 " shared %" PRIu64, answer[1], answer[0], answer[2],
+           answer[3], answer[4]);
     print_masses(masses, cells);
     return 0;
 }

@@ -12,7 +12,7 @@ program example
     integer(c_int32_t), parameter :: safe_lows(cells) = 0, safe_highs(cells) = 10, weights(cells) = 0
     integer(c_int32_t), parameter :: parents(nodes) = [4, 4, 5, 5, 6, 6, 6]
     integer(c_int32_t) :: kept(cells) = [1, 2, 3, 4], total
-    integer(c_int64_t) :: answer(4), returned
+    integer(c_int64_t) :: answer(5), returned
 
     returned = legzhuro_open(kept, cells, answer, size(answer, kind=c_size_t))
     if (returned /= 0) error stop 'the kept field was refused'
@@ -38,8 +38,8 @@ contains
             return
         end if
         total = int(answer(2), c_int32_t)
-        print '(a, i0, 3(a, i0), a, *(1x, i0))', 'step ', source, ': outcome ', answer(1), ' total ', answer(2), ' change ', &
-            answer(3), ' masses', kept
+        print '(a, i0, 4(a, i0), a, *(1x, i0))', 'step ', source, ': outcome ', answer(1), ' total ', answer(2), ' change ', &
+            answer(3), ' shared ', answer(4), ' masses', kept
     end subroutine step
 
     subroutine export_masses(scale)
@@ -72,8 +72,8 @@ contains
             print '(2a, i0, a, i0)', name, ': refused ', legzhuro_number(returned), ' ', legzhuro_place(returned)
             return
         end if
-        print '(a, 4(a, i0), a, *(1x, i0))', name, ': outcome ', answer(2), ' cells ', answer(1), ' total ', answer(3), &
-            ' change ', answer(4), ' masses', masses(:answer(1))
+        print '(a, 5(a, i0), a, *(1x, i0))', name, ': outcome ', answer(2), ' cells ', answer(1), ' total ', answer(3), &
+            ' change ', answer(4), ' shared ', answer(5), ' masses', masses(:answer(1))
     end subroutine repair
 
     subroutine repair_written(total)

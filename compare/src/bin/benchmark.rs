@@ -71,7 +71,7 @@ fn print_line(call: &str, shape: &str, field: &Field, (library, second): (f64, f
 fn measure_step(random: &mut Random, field: &Field, total: u32) -> (f64, f64) {
     let mut kept = partition(random, total, field.targets.len());
     let (mut kept_too, lists, mut workspace) = (kept.clone(), field.lists(), Workspace::default());
-    let (mut scratch, mut answer) = (vec![0; 6 * field.parents.len()], [0; 3]);
+    let (mut scratch, mut answer) = (vec![0; 6 * field.parents.len()], [0; 4]);
     let (mut scratch_too, mut answer_too) = (scratch.clone(), answer);
     let mut library = || assert!(calls::step(total, black_box(&mut kept), 0, black_box(&lists), &mut scratch, &mut answer) == 0);
     let mut second =

@@ -27,9 +27,20 @@ fn put_head(buffer: &mut [u8], n: usize, repair: Repair)
     requires { ⌜ (n ≤ 512) × (512 ≤ length (now buffer)) ⌝ }
     ensures { λ _. ⌜ now (buffer .exit) ≡ written (now (buffer .entry)) 0 (blockBytes 1 (answerHead n repair)) ⌝ }
 {
-    let low = low_word(repair.change);
-    let high = high_word(repair.change);
-    let head = [512u32, n as u32, repair.outcome, repair.total, low, high];
+    let change_low = low_word(repair.change);
+    let change_high = high_word(repair.change);
+    let shared_low = low_word(repair.shared);
+    let shared_high = high_word(repair.shared);
+    let head = [
+        512u32,
+        n as u32,
+        repair.outcome,
+        repair.total,
+        change_low,
+        change_high,
+        shared_low,
+        shared_high,
+    ];
     fill_block(&mut buffer[0..512], 1, &head);
 }
 
@@ -76,12 +87,15 @@ fn told_repair(file: &[u8]) -> Repair
     requires { ⌜ 512 ≤ length (now file) ⌝ }
     ensures { λ r. ⌜ r ≡ answerRepair (now (file .entry)) ⌝ }
 {
-    let low = payload_word(file, 1, 4);
-    let high = payload_word(file, 1, 5);
+    let change_low = payload_word(file, 1, 4);
+    let change_high = payload_word(file, 1, 5);
+    let shared_low = payload_word(file, 1, 6);
+    let shared_high = payload_word(file, 1, 7);
     Repair {
         outcome: payload_word(file, 1, 2),
         total: payload_word(file, 1, 3),
-        change: two_words(low, high),
+        change: two_words(change_low, change_high),
+        shared: two_words(shared_low, shared_high),
     }
 }
 

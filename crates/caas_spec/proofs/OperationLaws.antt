@@ -1,5 +1,6 @@
--- What Split's verdict means, that an answer tells its verdict and nothing else, and what the masses of an accepted call are. Assumes nothing.
-use mathlib.Core.Path.{_≡_, refl, sym, _∙_, ap, subst}
+-- What Split's verdict means, that an answer tells its verdict and d and nothing else, and what the masses and d of an accepted call are.
+-- Assumes nothing.
+use mathlib.Core.Path.{_≡_, refl, sym, _∙_, ap, ap₂, subst}
 use mathlib.Core.Logic.{_↔_}
 use mathlib.Core.Bool.{true, _&&_}
 use mathlib.Core.List.{List, [], _∷_}
@@ -9,23 +10,25 @@ use lib.Dec.{eqb}
 use lib.IntN.{ℤ, pos, natAbs, _-ℤ_}
 use lib.Signed.{_≤ℤ_}
 use lib.ListN.{length}
+use mir.Syntax.{w64}
+use mir.Val.{toZ, ofZ}
 use Rattle.numbers.specs.declared.Checked.the-variants.{Pass, Fail}
 use Rattle.numbers.specs.Sums.{ℕ-adds, ℤ-adds, sumTo}
 use Rattle.numbers.specs.Lists.{atℤ}
-use Rattle.numbers.specs.Signed.{over, under}
-use Rattle.numbers.specs.Checks.{answered, after, first, checkCount, Decides, rule, ruleAt, Holds, Broken, maxTotal, DecidesAll, RefuseWith}
+use Rattle.numbers.specs.Signed.{over, under, minℤ, maxℤ}
+use Rattle.numbers.specs.Checks.{accepted, answered, after, first, checkCount, Decides, rule, ruleAt, Holds, Broken, maxTotal, DecidesAll, RefuseWith}
 use Rattle.numbers.proofs.TestLaws.{and-means, eq-means, injective}
-use Rattle.numbers.proofs.SumLaws.{sumTo-ext, sumTo-none, sumTo-over}
+use Rattle.numbers.proofs.SumLaws.{sumTo-ext, sumTo-none, sumTo-over, sumTo-pos}
 use Rattle.numbers.proofs.ListLaws.{length-listTo, getD-listTo}
-use Rattle.numbers.proofs.SignedLaws.{le-parts, from-zero, over-whole, from-zero-whole, leZ-means}
+use Rattle.numbers.proofs.SignedLaws.{about, read-back, le-parts, from-zero, over-whole, from-zero-whole, leZ-means, max-under}
 use Rattle.numbers.proofs.CheckLaws.{answered-accepted, answered-refused, after-pass, after-fail, both-first, both-second, decides-unless, decides-from, decides-none, decides-then, every-means, count-decides}
 use Rattle.numbers.proofs.ChainLaws.{refuse-with}
 use Rattle.caas_spec.specs.declared.SplitAnswer.{SplitAnswer}
 use Rattle.caas_spec.specs.declared.SplitAnswer.the-variants.{Done, Refused}
 use Rattle.caas_spec.specs.Group.{Group, Splits, Divides, distance, sumIn}
-use Rattle.caas_spec.specs.Split.{result, Proportional}
-use Rattle.caas_spec.specs.Operation.{SplitCall, items, sumℤ, checkLengths, checkSplitOrder, checkHighs, checkWeights, checkSplitReach, splitShapeChecks, splitVerdict, SplitLengths, splitRules, SplitFits, itemGroup, splitMasses, splitTells, splitAnswer, SplitContract, Divided, distanceOf, SplitFacts}
-use Rattle.caas_spec.proofs.SplitLaws.{result-divides, result-nearest, result-proportional}
+use Rattle.caas_spec.specs.Split.{clip, clipped, deficit, result, Proportional}
+use Rattle.caas_spec.specs.Operation.{SplitCall, items, sumℤ, checkLengths, checkSplitOrder, checkHighs, checkWeights, checkSplitReach, splitShapeChecks, splitVerdict, SplitLengths, splitRules, SplitFits, itemGroup, splitMasses, splitDeficit, splitTells, splitAnswer, SplitContract, Divided, distanceOf, clippedAt, SplitFacts}
+use Rattle.caas_spec.proofs.SplitLaws.{deficit-most, moved-adds, result-divides, result-nearest, result-proportional}
 
 -- ---- each check, and the verdict
 
@@ -117,7 +120,7 @@ module _ (c : SplitCall) where
 -- what an answer tells is the answer
 answer-told : (a : SplitAnswer) → splitAnswer (splitTells a) ≡ a
 unfolding splitTells
-answer-told Done = refl
+answer-told (Done d) = refl
 answer-told (Refused number place) = refl
 
 pub split-tells-injective : (a b : SplitAnswer) → splitTells a ≡ splitTells b → a ≡ b
@@ -165,6 +168,12 @@ module _ (c : SplitCall) (fits : SplitFits c) where
   pub weights-small : sumIn ℕ-adds G (G .weight) ≤ maxTotal
   weights-small = let h : pos (sumIn ℕ-adds G (G .weight)) ≤ℤ pos maxTotal = subst (λ z. z ≤ℤ pos maxTotal) weights-sum (fits .weighs) in omega (arith, le-parts h)
 
+  -- d is read as it is from 64 bits
+  pub split-deficit-read : {d : ℤ} → d ≡ splitDeficit c → toZ w64 (ofZ w64 d) ≡ splitDeficit c
+  unfolding splitDeficit
+  split-deficit-read e =
+      ap (λ z. toZ w64 (ofZ w64 z)) e ∙ read-back (deficit G M) (omega (arith, about (deficit G M), deficit-most G M items-splits, highs-small))
+
   mass-at : (u : ℕ) → u < k → atℤ (splitMasses c) u ≡ pos (result G M u)
   unfolding splitMasses
   mass-at u l = getD-listTo k (λ w. pos (result G M w)) u (pos 0) l
@@ -198,41 +207,65 @@ module _ (c : SplitCall) (fits : SplitFits c) where
   weightless : ((u : ℕ) → u < k → atℤ (c .weights) u ≡ pos 0) → sumIn ℕ-adds G (G .weight) ≡ 0
   weightless h = sumTo-none ℕ-adds k _ (λ u l. ap over (h u l))
 
-  pub fits-facts : SplitFacts c (splitMasses c)
+  -- the clipped targets are the group's
+  clipped-is : (u : ℕ) → u < k → clippedAt c u ≡ pos (clipped G u)
+  unfolding clipped clip
+  clipped-is u l =
+      let lo = from-zero-whole (atℤ (c .lows) u) (fits .nonneg u l) in
+      let hi = over-whole (atℤ (c .highs) u) (high-nonneg u l) in
+      ap₂ (λ a b. maxℤ a (minℤ (atℤ (c .targets) u) b)) lo hi ∙ over-whole _ (max-under (G .low u) (minℤ (atℤ (c .targets) u) (pos (G .high u))))
+
+  clipped-sum : sumTo ℤ-adds k (clippedAt c) ≡ pos (sumIn ℕ-adds G (clipped G))
+  clipped-sum = sumTo-ext ℤ-adds k (clippedAt c) (λ u. pos (clipped G u)) clipped-is ∙ sumTo-pos k (clipped G)
+
+  deficit-is : splitDeficit c ≡ c .total -ℤ sumTo ℤ-adds k (clippedAt c)
+  unfolding splitDeficit deficit
+  deficit-is = ap₂ _-ℤ_ (sym total-whole) (sym clipped-sum)
+
+  moves-is : sumTo ℕ-adds k (λ u. natAbs (atℤ (splitMasses c) u -ℤ clippedAt c u)) ≡ natAbs (splitDeficit c)
+  unfolding splitDeficit
+  moves-is =
+      sumTo-ext ℕ-adds k _ (λ u. natAbs (pos (result G M u) -ℤ pos (clipped G u))) (λ u l. ap₂ (λ x y. natAbs (x -ℤ y)) (mass-at u l) (clipped-is u l))
+      ∙ moved-adds G M items-splits
+
+  pub fits-facts : SplitFacts c (splitDeficit c) (splitMasses c)
   fits-facts =
       record {
         count = unfold splitMasses in (length-listTo k (λ w. pos (result G M w)));
         divides = record { within = mass-within; sum = masses-sum };
         nearest = λ y d. rw (distance-masses, distance-is y) (result-nearest G M items-splits y (divided-divides y d));
         proportional = λ h u l. subst (λ z. Proportional G M z u) (sym (mass-at u l)) (result-proportional G M items-splits (weightless h) u l refl);
+        deficit = deficit-is;
+        moves = moves-is;
       }
 
 -- ---- from the contract alone
 
--- a call answered Done fits, and its masses have every fact
-done-passed : (c : SplitCall) (masses : List ℤ) → SplitContract c Done masses → splitVerdict c ≡ Pass
-unfolding splitTells
-done-passed c masses p = answered-accepted (splitVerdict c) tt tt (p .answers) .0
+-- a call answered Done fits, and its masses and d have every fact
+module _ (c : SplitCall) (d : ℤ) (masses : List ℤ) (p : SplitContract c (Done d) masses) where
+  done-told : (splitVerdict c ≡ Pass) × (d ≡ splitDeficit c)
+  done-told = unfold splitTells in answered-accepted (splitVerdict c) d (splitDeficit c) (p .answers)
 
-pub done-fits : (c : SplitCall) (masses : List ℤ) → SplitContract c Done masses → SplitFits c
-done-fits c masses p = split-accepts c .0 (done-passed c masses p)
+  pub done-fits : SplitFits c
+  done-fits = split-accepts c .0 (done-told .0)
 
-pub split-done-facts : (c : SplitCall) (masses : List ℤ) → SplitContract c Done masses → SplitFacts c masses
-split-done-facts c masses p =
-    subst (SplitFacts c) (sym (p .writes ∙ ap (λ v. after v (splitMasses c) (c .masses)) (done-passed c masses p))) (fits-facts c (done-fits c masses p))
+  pub split-done-facts : SplitFacts c d masses
+  split-done-facts =
+      let e = p .writes ∙ ap (λ v. after v (splitMasses c) (c .masses)) (done-told .0) in
+      subst (λ z. SplitFacts c z masses) (sym (done-told .1)) (subst (SplitFacts c (splitDeficit c)) (sym e) (fits-facts c done-fits))
 
 -- a refused call left the masses as they were, and broke the rule of its number
 pub split-refused-keeps : (c : SplitCall) (number place : ℕ) (masses : List ℤ) → SplitContract c (Refused number place) masses → (masses ≡ c .masses) × Broken (splitRules c) number place
 unfolding splitTells
 split-refused-keeps c number place masses p =
-    let e = answered-refused (splitVerdict c) tt number place (p .answers) in
+    let e = answered-refused (splitVerdict c) (splitDeficit c) number place (p .answers) in
     (p .writes ∙ ap (λ v. after v (splitMasses c) (c .masses)) e, split-refuses c number place .0 e)
 
 -- and the contract by the verdict: of a call that is refused, and of one that is accepted
 pub contract-refused : (c : SplitCall) {number place : ℕ} → splitVerdict c ≡ Fail number place → SplitContract c (Refused number place) (c .masses)
 unfolding splitTells
-contract-refused c e = record { answers = ap (λ v. answered v tt) (sym e); writes = after-fail _ (c .masses) e }
+contract-refused c e = record { answers = ap (λ v. answered v (splitDeficit c)) (sym e); writes = after-fail _ (c .masses) e }
 
-pub contract-done : (c : SplitCall) {masses : List ℤ} → splitVerdict c ≡ Pass → masses ≡ splitMasses c → SplitContract c Done masses
+pub contract-done : (c : SplitCall) {d : ℤ} {masses : List ℤ} → splitVerdict c ≡ Pass → d ≡ splitDeficit c → masses ≡ splitMasses c → SplitContract c (Done d) masses
 unfolding splitTells
-contract-done c e w = record { answers = ap (λ v. answered v tt) (sym e); writes = after-pass (c .masses) e w }
+contract-done c e t w = record { answers = ap accepted t ∙ ap (λ v. answered v (splitDeficit c)) (sym e); writes = after-pass (c .masses) e w }

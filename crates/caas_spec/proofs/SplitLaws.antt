@@ -158,6 +158,10 @@ module _ (G : Group) (M : ℕ) (can : Splits G M) where
   unfolding result capacity
   result-gap u l e = moved-gap (surplus (deficit G M)) (G .low u) (G .high u) (clipped G u) (shares G M u) (shares-cap u l e)
 
+  -- what they differ from them by in sum is the size of d
+  pub moved-adds : sumIn ℕ-adds G (λ u. natAbs (pos (result G M u) -ℤ pos (clipped G u))) ≡ D
+  moved-adds = in-ext G ℕ-adds _ (shares G M) (λ u l e. minus-size (result G M u) (clipped G u) ∙ result-gap u l e) ∙ shares-add
+
   -- the results add up to M
   pub result-adds : sumIn ℕ-adds G (result G M) ≡ M
   result-adds = go sign
@@ -245,3 +249,8 @@ module _ (G : Group) (M : ℕ) (can : Splits G M) where
       one : (down : Bool) → Each G (λ u. room down (G .low u) (G .high u) (clipped G u) ≤ G .high u)
       one true u l e = omega (arith, clipped-within u l e)
       one false u l e = omega arith
+
+  -- so is the size of d
+  pub deficit-most : D ≤ sumIn ℕ-adds G (G .high)
+  unfolding capacity
+  deficit-most = omega (arith, enough, room-most (surplus (deficit G M)))

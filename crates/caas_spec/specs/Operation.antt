@@ -10,12 +10,12 @@ use lib.ListN.{length}
 use Rattle.numbers.specs.declared.Checked.{Checked}
 use Rattle.numbers.specs.Sums.{ℕ-adds, ℤ-adds, sumTo}
 use Rattle.numbers.specs.Lists.{atℤ, listTo}
-use Rattle.numbers.specs.Signed.{over}
+use Rattle.numbers.specs.Signed.{over, minℤ, maxℤ}
 use Rattle.numbers.specs.Checks.{Answered, accepted, refused, answered, after, unless, first, firstFrom, everyFrom, checkCount, Rule, rule, ruleAt, maxTotal}
 use Rattle.caas_spec.specs.declared.SplitAnswer.{SplitAnswer}
 use Rattle.caas_spec.specs.declared.SplitAnswer.the-variants.{Done, Refused}
 use Rattle.caas_spec.specs.Group.{Group}
-use Rattle.caas_spec.specs.Split.{Proportional, result}
+use Rattle.caas_spec.specs.Split.{Proportional, deficit, result}
 
 -- all that a call is given
 pub record SplitCall : Type 0 where
@@ -131,21 +131,25 @@ itemGroup c =
 unfoldable pub splitMasses : SplitCall → List ℤ
 splitMasses c = listTo (items c) (λ u. pos (result (itemGroup c) (over (c .total)) u))
 
+-- 01's d of the items, which is told (ticket 2 of 02)
+unfoldable pub splitDeficit : SplitCall → ℤ
+splitDeficit c = deficit (itemGroup c) (over (c .total))
+
 -- what an answer tells, and the answer that tells it
-unfoldable pub splitTells : SplitAnswer → Answered Unit
-splitTells Done = accepted tt
+unfoldable pub splitTells : SplitAnswer → Answered ℤ
+splitTells (Done d) = accepted d
 splitTells (Refused number place) = refused number place
 
-abbrev pub splitAnswer : Answered Unit → SplitAnswer
-splitAnswer (accepted u) = Done
+abbrev pub splitAnswer : Answered ℤ → SplitAnswer
+splitAnswer (accepted d) = Done d
 splitAnswer (refused number place) = Refused number place
 
 -- the whole contract of the operation
 pub record SplitContract (c : SplitCall) (answer : SplitAnswer) (masses : List ℤ) : Type 0 where
-  pub answers : splitTells answer ≡ answered (splitVerdict c) tt
+  pub answers : splitTells answer ≡ answered (splitVerdict c) (splitDeficit c)
   pub writes : masses ≡ after (splitVerdict c) (splitMasses c) (c .masses)
 
--- ---- what the masses of an accepted call are, in plain facts
+-- ---- what the masses and d of an accepted call are, in plain facts
 
 -- whole numbers by index that lie within the bounds and add up to the total
 pub record Divided (c : SplitCall) (y : ℕ → ℤ) : Type 0 where
@@ -156,7 +160,11 @@ pub record Divided (c : SplitCall) (y : ℕ → ℤ) : Type 0 where
 unfoldable pub distanceOf : SplitCall → (ℕ → ℤ) → ℕ
 distanceOf c y = sumTo ℕ-adds (items c) (λ u. natAbs (y u -ℤ atℤ (c .targets) u))
 
-pub record SplitFacts (c : SplitCall) (x : List ℤ) : Type 0 where
+-- an item's target, clipped into its low and high
+abbrev pub clippedAt : SplitCall → ℕ → ℤ
+clippedAt c u = maxℤ (atℤ (c .lows) u) (minℤ (atℤ (c .targets) u) (atℤ (c .highs) u))
+
+pub record SplitFacts (c : SplitCall) (d : ℤ) (x : List ℤ) : Type 0 where
   pub count : length x ≡ items c
   -- they lie within the bounds and add up to the total
   pub divides : Divided c (atℤ x)
@@ -164,3 +172,6 @@ pub record SplitFacts (c : SplitCall) (x : List ℤ) : Type 0 where
   pub nearest : (y : ℕ → ℤ) → Divided c y → distanceOf c (atℤ x) ≤ distanceOf c y
   -- without weights each share is less than one unit from the published proportion
   pub proportional : ((u : ℕ) → u < items c → atℤ (c .weights) u ≡ pos 0) → (u : ℕ) → u < items c → Proportional (itemGroup c) (over (c .total)) (atℤ x u) u
+  -- d is the total minus the sum of the clipped targets, and its size is what the masses differ from these by
+  pub deficit : d ≡ c .total -ℤ sumTo ℤ-adds (items c) (clippedAt c)
+  pub moves : sumTo ℕ-adds (items c) (λ u. natAbs (atℤ x u -ℤ clippedAt c u)) ≡ natAbs d

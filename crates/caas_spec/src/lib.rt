@@ -2,8 +2,8 @@
 // checks, answers and writes. Definitions (specs/) and laws (proofs/) alone; the code is in the crates `walks` and `split`. Relies on
 // `numbers`.
 
-// Split's answer: the masses are written, or the call is refused with 01's number and place.
+// Split's answer: the masses are written, and `deficit` is 01's d, with its sign; or the call is refused with 01's number and place.
 pub enum SplitAnswer {
-    Done,
+    Done { deficit: i64 },
     Refused { number: u32, place: u32 },
 }

@@ -15,11 +15,11 @@ use Rattle.numbers.specs.Quota.{quota}
 use Rattle.numbers.specs.Checks.{eachFrom, firstFrom, everyFrom, checkCount, checkScale}
 use Rattle.caas_spec.specs.Split.{clip, clipped, deficit, capacity, portion, firstShare, remainder, left, secondShare, shares, result}
 use Rattle.caas_spec.specs.Operation as caas
-use Rattle.caas_spec.specs.Operation.{checkLengths, checkHighs, checkWeights, splitVerdict, splitMasses}
+use Rattle.caas_spec.specs.Operation.{checkLengths, checkHighs, checkWeights, splitVerdict, splitMasses, splitDeficit}
 use Rattle.scratch_spec.specs.Columns.{width}
 use Rattle.qlt_spec.specs.Tree.{leads, childOf, anyChild, nodeSum, parentOk, nodeOk, massFrom, massAt}
 use Rattle.qlt_spec.specs.Field.{Lists, cells, nodes, field, outcome, outcomeNumber, lowIn, highIn, changeOf}
-use Rattle.qlt_spec.specs.Masses.{massBetween, groupOf, treeMass, treeMasses}
+use Rattle.qlt_spec.specs.Masses.{massBetween, groupOf, treeMass, treeMasses, sharedOf, treeShared}
 use Rattle.qlt_spec.specs.Checks.{checkNodes, checkLists, checkTree, boundsOrdered, checkOrder, checkSum, checkReach, checkShape, checkValues}
 use Rattle.qlt_spec.specs.Operation.{ReconstructCall, reconstructCall, reconstructVerdict, repair}
 use Rattle.doubles_spec.specs.Import.{checkFinite, checkTarget, checkBound, importVerdict, importUnits, carried}
@@ -119,8 +119,8 @@ e1-text = text-of e1Lists 16 storable e1-verdict ∙ e1-listing
 rest : map (λ r. gives (r .asked)) others ≡ map (λ r. r .wanted) others
 unfolding sumTo listTo minℤ maxℤ quota eachFrom firstFrom everyFrom checkCount clip clipped deficit capacity portion firstShare remainder left
     secondShare shares result checkLengths caas.checkSplitOrder checkHighs checkWeights caas.checkSplitReach splitVerdict
-    splitMasses leads childOf anyChild nodeSum parentOk nodeOk massFrom massAt outcome outcomeNumber lowIn highIn changeOf massBetween groupOf treeMass treeMasses
-    checkNodes checkLists checkTree boundsOrdered checkOrder checkSum checkReach checkShape checkValues reconstructVerdict repair checkScale checkFinite
+    splitMasses splitDeficit leads childOf anyChild nodeSum parentOk nodeOk massFrom massAt outcome outcomeNumber lowIn highIn changeOf massBetween groupOf treeMass treeMasses
+    sharedOf treeShared checkNodes checkLists checkTree boundsOrdered checkOrder checkSum checkReach checkShape checkValues reconstructVerdict repair checkScale checkFinite
     checkTarget checkBound importVerdict importUnits carried ofBits
 rest = refl
 

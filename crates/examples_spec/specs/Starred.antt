@@ -1,11 +1,11 @@
--- 01's starred examples, E1 to E10: what is asked, and what must be given. Assumes nothing.
+-- 01's starred examples, E1 to E10: what is asked, and what must be given, with d and what is shared out (ticket 2 of 02). Assumes nothing.
 use mathlib.Core.List.{List, [], _∷_}
 use Prim.Native.Nat.{ℕ}
 use lib.IntN.{ℤ, pos, negsuc}
 use lib.ListN.{replicate}
 use lib.Ieee.{Float, binary64, ofBits}
 use Rattle.numbers.specs.Checks.{Answered, accepted, refused, answered, after}
-use Rattle.caas_spec.specs.Operation.{SplitCall, splitCall, splitVerdict, splitMasses}
+use Rattle.caas_spec.specs.Operation.{SplitCall, splitCall, splitVerdict, splitMasses, splitDeficit}
 use Rattle.qlt_spec.specs.declared.Repair.{Repair}
 use Rattle.qlt_spec.specs.Field.{Lists, lists, field}
 use Rattle.qlt_spec.specs.Masses.{treeMasses}
@@ -27,14 +27,14 @@ pub data Asked : Type 0 where
 
 -- what is given: what the operation tells, with the masses that it leaves or the double that a refusal carries; or the text
 pub data Given : Type 0 where
-  split : Answered Unit → List ℤ → Given
+  split : Answered ℤ → List ℤ → Given
   repair : Answered Repair → List ℕ → Given
   import : Answered CellUnits → List Float → Given
   text : List ℕ → Given
 
 -- by the definitions that the contracts cite
 abbrev pub gives : Asked → Given
-gives (splits c) = split (answered (splitVerdict c) tt) (after (splitVerdict c) (splitMasses c) (c .masses))
+gives (splits c) = split (answered (splitVerdict c) (splitDeficit c)) (after (splitVerdict c) (splitMasses c) (c .masses))
 gives (repairs c) =
     repair (answered (reconstruct.reconstructVerdict c) (reconstruct.repair (c .lists) (c .total)))
     (after (reconstruct.reconstructVerdict c) (treeMasses (field (c .lists)) (c .total)) (c .masses))
@@ -70,11 +70,11 @@ cell t l h = record { target = bits t; low = bits l; high = bits h; «safe_low»
 
 -- ---- what must be given
 
-abbrev done : List ℤ → Given
-done masses = split (accepted tt) masses
+abbrev done : ℤ → List ℤ → Given
+done d masses = split (accepted d) masses
 
-abbrev repaired : ℕ → ℕ → ℕ → List ℕ → Given
-repaired outcome total change masses = repair (accepted (record { outcome = outcome; total = total; change = change })) masses
+abbrev repaired : (outcome total change shared : ℕ) → List ℕ → Given
+repaired outcome total change shared masses = repair (accepted (record { outcome = outcome; total = total; change = change; shared = shared })) masses
 
 abbrev units : ℤ → Given
 units t = import (accepted (record { target = t; low = 0; high = 0; «safe_low» = 0; «safe_high» = 0 })) []
@@ -91,21 +91,23 @@ e1 = row (prints (fieldBytes e1Lists 16)) (text (ascii "outcome 0 cells 4 total 
 
 abbrev pub others : List Row
 others =
+    -- E1's field, by Reconstruct
+    row (repairs (reconstructCall e1Lists 16 (replicate 4 9) (replicate 42 (pos 1)))) (repaired 0 16 4 1 (0 ∷ 7 ∷ 4 ∷ 5 ∷ []))
     -- E2
-    row (splits (e2 (pos 2))) (done (pos 0 ∷ pos 1 ∷ pos 1 ∷ []))
-    ∷ row (splits (e2 (pos 3))) (done (pos 1 ∷ pos 1 ∷ pos 1 ∷ []))
+    ∷ row (splits (e2 (pos 2))) (done (pos 2) (pos 0 ∷ pos 1 ∷ pos 1 ∷ []))
+    ∷ row (splits (e2 (pos 3))) (done (pos 3) (pos 1 ∷ pos 1 ∷ pos 1 ∷ []))
     ∷ row (splits (e2 (pos 4))) (split (refused 8 0) (replicate 3 (pos 9)))
     -- E3
-    ∷ row (splits e3) (done (pos 5 ∷ pos 3 ∷ []))
+    ∷ row (splits e3) (done (pos 8) (pos 5 ∷ pos 3 ∷ []))
     -- E4, E5, E6
-    ∷ row (repairs (e4 4 (2 ∷ 2 ∷ 2 ∷ []))) (repaired 1 4 4 (2 ∷ 2 ∷ []))
-    ∷ row (repairs (e4 14 (2 ∷ 2 ∷ 2 ∷ []))) (repaired 2 14 6 (6 ∷ 8 ∷ []))
-    ∷ row (repairs (e4 20 (2 ∷ 2 ∷ 2 ∷ []))) (repaired 2 20 12 (10 ∷ 10 ∷ []))
+    ∷ row (repairs (e4 4 (2 ∷ 2 ∷ 2 ∷ []))) (repaired 1 4 4 4 (2 ∷ 2 ∷ []))
+    ∷ row (repairs (e4 14 (2 ∷ 2 ∷ 2 ∷ []))) (repaired 2 14 6 4 (6 ∷ 8 ∷ []))
+    ∷ row (repairs (e4 20 (2 ∷ 2 ∷ 2 ∷ []))) (repaired 2 20 12 10 (10 ∷ 10 ∷ []))
     ∷ row (repairs (e4 21 (2 ∷ 2 ∷ 2 ∷ []))) (repair (refused 8 0) (9 ∷ 9 ∷ []))
     -- E7
     ∷ row (repairs (e4 4 (2 ∷ 2 ∷ []))) (repair (refused 4 0) (9 ∷ 9 ∷ []))
     -- E8
-    ∷ row (repairs e8) (repaired 2 7 4 (7 ∷ []))
+    ∷ row (repairs e8) (repaired 2 7 4 0 (7 ∷ []))
     -- E9: targets 2.5, 3.5, −2.5
     ∷ row (imports (cell 0x4004_0000_0000_0000 0 0)) (units (pos 2))
     ∷ row (imports (cell 0x400c_0000_0000_0000 0 0)) (units (pos 4))

@@ -14,7 +14,7 @@ use Rattle.caas_spec.specs.Split.{clip, clipped, deficit, capacity, portion, fi
 use Rattle.qlt_spec.specs.declared.Repair.{Repair}
 use Rattle.qlt_spec.specs.Tree.{leads, childOf, anyChild, nodeSum, parentOk, nodeOk, massFrom, massAt}
 use Rattle.qlt_spec.specs.Field.{lists, field, outcome, outcomeNumber, lowIn, highIn, changeOf}
-use Rattle.qlt_spec.specs.Masses.{massBetween, groupOf, treeMass, treeMasses}
+use Rattle.qlt_spec.specs.Masses.{massBetween, groupOf, treeMass, treeMasses, sharedOf, treeShared}
 use Rattle.qlt_spec.specs.Checks.{checkNodes, checkLists, checkTree, boundsOrdered, checkOrder, checkSum, checkReach, checkShape, checkValues}
 use Rattle.qlt_spec.specs.Operation.{ReconstructCall, reconstructCall, reconstructVerdict, repair}
 
@@ -44,10 +44,10 @@ equal M =
 
 abbrev pub rows : List Row
 rows =
-    record { given = flat; told = accepted (record { outcome = 0; total = 16; change = 4 }); masses = 0 ∷ 8 ∷ 4 ∷ 4 ∷ [] }
-    ∷ record { given = clipping; told = accepted (record { outcome = 0; total = 10; change = 8 }); masses = 0 ∷ 5 ∷ 5 ∷ [] }
-    ∷ record { given = equal 8; told = accepted (record { outcome = 0; total = 8; change = 0 }); masses = 3 ∷ 5 ∷ [] }
-    ∷ record { given = equal 10; told = accepted (record { outcome = 0; total = 10; change = 2 }); masses = 4 ∷ 6 ∷ [] }
+    record { given = flat; told = accepted (record { outcome = 0; total = 16; change = 4; shared = 1 }); masses = 0 ∷ 8 ∷ 4 ∷ 4 ∷ [] }
+    ∷ record { given = clipping; told = accepted (record { outcome = 0; total = 10; change = 8; shared = 5 }); masses = 0 ∷ 5 ∷ 5 ∷ [] }
+    ∷ record { given = equal 8; told = accepted (record { outcome = 0; total = 8; change = 0; shared = 0 }); masses = 3 ∷ 5 ∷ [] }
+    ∷ record { given = equal 10; told = accepted (record { outcome = 0; total = 10; change = 2; shared = 2 }); masses = 4 ∷ 6 ∷ [] }
     ∷ []
 
 abbrev pub got : Row → Row
@@ -60,5 +60,5 @@ got r =
 
 -- what the definitions give, in every row
 pub strays : map got rows ≡ rows
-unfolding sumTo listTo minℤ maxℤ quota eachFrom firstFrom checkCount clip clipped deficit capacity portion firstShare remainder left secondShare shares result leads childOf anyChild nodeSum parentOk nodeOk massFrom massAt outcome outcomeNumber lowIn highIn changeOf massBetween groupOf treeMass treeMasses checkNodes checkLists checkTree boundsOrdered checkOrder checkSum checkReach checkShape checkValues reconstructVerdict repair
+unfolding sumTo listTo minℤ maxℤ quota eachFrom firstFrom checkCount clip clipped deficit capacity portion firstShare remainder left secondShare shares result leads childOf anyChild nodeSum parentOk nodeOk massFrom massAt outcome outcomeNumber lowIn highIn changeOf massBetween groupOf treeMass treeMasses sharedOf treeShared checkNodes checkLists checkTree boundsOrdered checkOrder checkSum checkReach checkShape checkValues reconstructVerdict repair
 strays = refl

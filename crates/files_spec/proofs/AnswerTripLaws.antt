@@ -2,7 +2,7 @@
 use mathlib.Core.Path.{_≡_, refl, sym, _∙_, ap, ap₂, subst}
 use mathlib.Core.Bool.{Bool, true, false, cond}
 use mathlib.Core.List.{List}
-use Prim.Native.Nat.{ℕ, zero, suc, _+_, _*_, _-_, _/_, _%_, _^_, _≤_, _<_}
+use Prim.Native.Nat.{ℕ, zero, suc, _+_, _*_, _-_, _^_, _≤_, _<_}
 use native.Mathlib.Omega.{arith}
 use lib.Dec.{leb}
 use lib.ListN.{length, take}
@@ -69,7 +69,9 @@ module _ (n : ℕ) (r : Repair) (masses : List ℕ) (t : AnswerTyped r masses) (
   head-small (suc (suc (suc zero))) = t .total-word
   head-small (suc (suc (suc (suc zero)))) = low-word-fits (r .change)
   head-small (suc (suc (suc (suc (suc zero))))) = high-word-fits (r .change) (t .change-words)
-  head-small (suc (suc (suc (suc (suc (suc i)))))) = omega arith
+  head-small (suc (suc (suc (suc (suc (suc zero)))))) = low-word-fits (r .shared)
+  head-small (suc (suc (suc (suc (suc (suc (suc zero))))))) = high-word-fits (r .shared) (t .shared-words)
+  head-small (suc (suc (suc (suc (suc (suc (suc (suc i)))))))) = omega arith
 
   small : (b : ℕ) → Words (ws b)
   unfolding answerWords
@@ -96,15 +98,22 @@ module _ (n : ℕ) (r : Repair) (masses : List ℕ) (t : AnswerTyped r masses) (
   unfolding answerWords
   cells-back = word 1 1 (omega arith) (omega arith) (omega arith)
 
+  -- words j and j + 1 give back the number of 64 bits whose words they are
+  number-back : (j x : ℕ) → j < 124 → at (answerHead n r) j ≡ lowWord x → at (answerHead n r) (suc j) ≡ highWord x → twoWords (payloadWord file 1 j) (payloadWord file 1 (suc j)) ≡ x
+  unfolding answerWords
+  number-back j x m low high =
+      let l : payloadWord file 1 j ≡ lowWord x = word 1 j (omega arith) (omega arith) (omega arith) ∙ low in
+      let h : payloadWord file 1 (suc j) ≡ highWord x = word 1 (suc j) (omega arith) (omega arith) (omega arith) ∙ high in
+      ap₂ twoWords l h ∙ two-words-back x
+
   pub repair-back : answerRepair file ≡ r
   unfolding answerWords
   repair-back =
       let o : payloadWord file 1 2 ≡ r .outcome = word 1 2 (omega arith) (omega arith) (omega arith) in
       let m : payloadWord file 1 3 ≡ r .total = word 1 3 (omega arith) (omega arith) (omega arith) in
-      let l : payloadWord file 1 4 ≡ lowWord (r .change) = word 1 4 (omega arith) (omega arith) (omega arith) in
-      let h : payloadWord file 1 5 ≡ highWord (r .change) = word 1 5 (omega arith) (omega arith) (omega arith) in
-      let c : twoWords (payloadWord file 1 4) (payloadWord file 1 5) ≡ r .change = ap₂ twoWords l h ∙ two-words-back (r .change) in
-      rw (o, m, c)
+      let c : twoWords (payloadWord file 1 4) (payloadWord file 1 5) ≡ r .change = number-back 4 (r .change) (omega arith) refl refl in
+      let s : twoWords (payloadWord file 1 6) (payloadWord file 1 7) ≡ r .shared = number-back 6 (r .shared) (omega arith) refl refl in
+      rw (o, m, c, s)
 
   -- the masses
   module _ (long : n ≤ length masses) where
@@ -156,12 +165,22 @@ module _ (file : List ℕ) (room : ℕ) (y : Bytes file) (f : AnswerReadFits fil
   word-small : (b j : ℕ) → payloadWord file b j < 2 ^ 32
   word-small b j = payloadWord-small file b j y
 
+  -- words j and j + 1 of block 1 make a number of 64 bits, whose words they are
+  abbrev number : ℕ → ℕ
+  number j = twoWords (payloadWord file 1 j) (payloadWord file 1 (suc j))
+
+  number-fits : (j : ℕ) → number j < 2 ^ 64
+  number-fits j = two-words-fit _ _ (word-small 1 j) (word-small 1 (suc j))
+
+  low-own : (j : ℕ) → lowWord (number j) ≡ payloadWord file 1 j
+  low-own j = low-word-back _ _ (word-small 1 j)
+
+  high-own : (j : ℕ) → highWord (number j) ≡ payloadWord file 1 (suc j)
+  high-own j = high-word-back _ _ (word-small 1 j)
+
   head-own : answerWords N (answerRepair file) (answerMasses file) 1 ≡ listTo headUsed (payloadWord file 1)
   unfolding answerWords listTo
-  head-own =
-      let l = low-word-back (payloadWord file 1 4) (payloadWord file 1 5) (word-small 1 4) in
-      let h = high-word-back (payloadWord file 1 4) (payloadWord file 1 5) (word-small 1 4) in
-      rw (l, h, f .head .mark)
+  head-own = rw (low-own 4, high-own 4, low-own 6, high-own 6, f .head .mark)
 
   mass-word : (i j : ℕ) → i < N → j < 1 → at (answerMasses file) i ≡ tableWord listTable file 2 j i
   unfolding answerMasses
@@ -204,7 +223,8 @@ module _ (file : List ℕ) (room : ℕ) (y : Bytes file) (f : AnswerReadFits fil
       record {
         outcome-word = word-small 1 2;
         total-word = word-small 1 3;
-        change-words = two-words-fit _ _ (word-small 1 4) (word-small 1 5);
+        change-words = number-fits 4;
+        shared-words = number-fits 6;
         mass-words = words-listTo N (massWord file) (λ i l. word-small _ _);
       }
 

@@ -4,8 +4,9 @@ use mathlib.Core.Path.{_≡_, refl, sym, _∙_, ap, subst}
 use mathlib.Core.Logic.{_↔_}
 use mathlib.Core.Bool.{Bool, true, false, cond}
 use mathlib.Core.List.{List, [], _∷_, _++_}
-use Prim.Native.Nat.{ℕ, _-_, _≤_}
+use Prim.Native.Nat.{ℕ, _-_, _≤_, _<_}
 use native.Mathlib.Omega.{arith}
+use native.Mathlib.Decide.{ℕ-discrete}
 use borrow.Author.Tests.{lt-leb}
 use lib.Dec.{leb}
 use lib.ListN.{length}
@@ -18,7 +19,7 @@ use Rattle.numbers.proofs.SumLaws.{sumTo-ext}
 use Rattle.numbers.proofs.ListLaws.{length-listTo, getD-listTo}
 use Rattle.numbers.proofs.CheckLaws.{both-first, both-second, both-assoc, both-pass, each-ext, answered-accepted, answered-refused, decides-then, decides-none, alone, decides-append, decides-each, count-decides, long-decides}
 use Rattle.numbers.proofs.ChainLaws.{refuse-with, refuse-each, refuse-append}
-use Rattle.blocks.specs.Blocks.{blockOf, checkBlock, SoundBlock, SpareZero, blockRules}
+use Rattle.blocks.specs.Blocks.{blockOf, payloadWord, checkBlock, SoundBlock, SpareZero, blockRules}
 use Rattle.blocks.specs.Tables.{tableUsed, HasTable, checkTable, listTable}
 use Rattle.blocks.proofs.BlockLaws.{sound-decides, spare-decides, block-decides}
 use Rattle.blocks.proofs.FileLaws.{length-decides, blocks-decides, mark-decides, later-fits}
@@ -37,7 +38,7 @@ pub answer-used-small : (n b : ℕ) → answerUsed n b ≤ 125
 unfolding answerUsed
 answer-used-small n b = go (leb b 1)
   where
-    go : (p : Bool) → cond p 6 (tableUsed listTable n (b - 2)) ≤ 125
+    go : (p : Bool) → cond p headUsed (tableUsed listTable n (b - 2)) ≤ 125
     go true = omega arith
     go false = tableUsed-small listTable list-fits n (b - 2)
 
@@ -59,6 +60,21 @@ module _ (file : List ℕ) where
 
   abbrev M : ℕ
   M = answerRepair file .total
+
+  -- ---- the repair
+
+  -- before ticket 2 of 02 the words from 6 on were spare: they are 0 exactly if the spare words are, and the sum shared out is read as 0. So
+  -- the files that were accepted then are those that are accepted now with 0
+  pub older-shared : SpareZero file 6 1 ↔ (SpareZero file headUsed 1 × (answerRepair file .shared ≡ 0))
+  older-shared = (
+    λ z. ((λ i l h. z i (omega arith) h), rw (z 6 (omega arith) (omega arith), z 7 (omega arith) (omega arith))),
+    λ t i l h. go t i l h (ℕ-discrete i 6) (ℕ-discrete i 7),
+  )
+    where
+      go : SpareZero file headUsed 1 × (answerRepair file .shared ≡ 0) → (i : ℕ) → 6 ≤ i → i < 125 → Dec (i ≡ 6) → Dec (i ≡ 7) → payloadWord file 1 i ≡ 0
+      go t i l h (yes e) q = ap (payloadWord file 1) e ∙ omega (arith, t .1)
+      go t i l h (no d) (yes e) = ap (payloadWord file 1) e ∙ omega (arith, t .1)
+      go t i l h (no d) (no e) = t .0 i (omega arith) h
 
   -- ---- the masses
 

@@ -22,10 +22,10 @@ answerBlocks n = 1 + massBlocks n
 
 -- how many payload words block 1 uses; those words; the k-th block of masses, from 0
 abbrev pub headUsed : ℕ
-headUsed = 6
+headUsed = 8
 
 abbrev pub answerHead : ℕ → Repair → List ℕ
-answerHead n r = 512 ∷ n ∷ r .outcome ∷ r .total ∷ lowWord (r .change) ∷ highWord (r .change) ∷ []
+answerHead n r = 512 ∷ n ∷ r .outcome ∷ r .total ∷ lowWord (r .change) ∷ highWord (r .change) ∷ lowWord (r .shared) ∷ highWord (r .shared) ∷ []
 
 abbrev pub massBlock : ℕ → List ℕ → ℕ → List ℕ
 massBlock n masses k = listBlock n masses k
@@ -47,9 +47,10 @@ answerUsed n b = cond (leb b 1) headUsed (tableUsed listTable n (b - 2))
 abbrev pub massWord : List ℕ → ℕ → ℕ
 massWord file i = tableWord listTable file 2 0 i
 
--- ---- each value fits its type: the change has 64 bits, all others 32
+-- ---- each value fits its type: the change and what is shared out have 64 bits, all others 32
 pub record AnswerTyped (r : Repair) (masses : List ℕ) : Type 0 where
   pub outcome-word : r .outcome < 2 ^ 32
   pub total-word : r .total < 2 ^ 32
   pub change-words : r .change < 2 ^ 64
+  pub shared-words : r .shared < 2 ^ 64
   pub mass-words : Words masses

@@ -17,7 +17,7 @@ use Rattle.files_spec.specs.declared.AnswerRead.the-variants.{Read, Refu
 
 -- ---- what the file says
 
--- block 1: n, and what is told of the repair
+-- block 1: n, and what is told of the repair. A file written before ticket 2 of 02 has 0 in the last two words
 abbrev pub answerCells : List ℕ → ℕ
 answerCells file = payloadWord file 1 1
 
@@ -27,6 +27,7 @@ answerRepair file =
       outcome = payloadWord file 1 2;
       total = payloadWord file 1 3;
       change = twoWords (payloadWord file 1 4) (payloadWord file 1 5);
+      shared = twoWords (payloadWord file 1 6) (payloadWord file 1 7);
     }
 
 -- the masses

@@ -16,7 +16,7 @@ pub const MAX_FIELD_FILE: usize = 18432;
 pub const MAX_ANSWER_FILE: usize = 3072;
 
 // The payload words that an answer file's block 1 uses; `headUsed` in specs/AnswerFile.antt.
-pub const HEAD_USED: usize = 6;
+pub const HEAD_USED: usize = 8;
 
 // What reading a field file answers: the sizes and M, the lists being written; or the refusal.
 pub enum FieldRead {

@@ -103,16 +103,17 @@ fn rule_of(first: u64, step: u64, modulus: u64) -> Rule
     }
 }
 
-// The outcome, the total and the change.
-fn repair_of(outcome: u64, total: u64, change: u64) -> Repair {
+// The outcome, the total, the change and the sum shared out.
+fn repair_of(outcome: u64, total: u64, change: u64, shared: u64) -> Repair {
     Repair {
         outcome: word(outcome),
         total: word(total),
         change,
+        shared,
     }
 }
 
-// The nine numbers from `at` on.
+// The ten numbers from `at` on.
 pub fn read_write(text: &[u8], at: usize) -> WriteCase
     requires { ⌜ at ≤ length (now text) ⌝ }
     ensures { λ r. ⌜ (r .masses ≤ 600) × (r .buffer ≤ 4096) × (r .next ≤ length (now (text .entry))) ⌝ }
@@ -122,14 +123,15 @@ pub fn read_write(text: &[u8], at: usize) -> WriteCase
     let outcome = read_unsigned(text, cells.next);
     let total = read_unsigned(text, outcome.next);
     let change = read_unsigned(text, total.next);
-    let masses = read_length(text, change.next, 600);
+    let shared = read_unsigned(text, change.next);
+    let masses = read_length(text, shared.next, 600);
     let buffer = read_length(text, masses.next, 4096);
     let first = read_unsigned(text, buffer.next);
     let step = read_unsigned(text, first.next);
     let modulus = read_unsigned(text, step.next);
     WriteCase {
         cells: index(cells.value),
-        repair: repair_of(outcome.value, total.value, change.value),
+        repair: repair_of(outcome.value, total.value, change.value, shared.value),
         masses: masses.value,
         buffer: buffer.value,
         rule: rule_of(first.value, step.value, modulus.value),

@@ -5,10 +5,10 @@
 // - for 1, Read a field file: the number of a file of data/, whose name has its three digits and `.field`, and the lengths of the lent
 //   lists of targets, lows, highs, safe lows, safe highs, weights (each above 520 is taken as 520) and parents (above 1,030 is taken as
 //   1,030). Before the call each entry is 7. A file that is missing is told in a line, and taken as empty;
-// - for 2, Write an answer: the cells, the outcome, the total, the change, the length of the list of masses (above 600 is taken as 600),
-//   that of the buffer (above 4,096 is taken as 4,096), and three numbers that give the masses, first, step and modulus: mass 0 is first
-//   mod modulus, and each later one is the sum of the mass before it and step, mod modulus. A modulus of 0 is taken as 1, and one above
-//   4294967296 as that. Before the call each byte of the buffer is 9;
+// - for 2, Write an answer: the cells, the outcome, the total, the change, the sum shared out, the length of the list of masses (above
+//   600 is taken as 600), that of the buffer (above 4,096 is taken as 4,096), and three numbers that give the masses, first, step and
+//   modulus: mass 0 is first mod modulus, and each later one is the sum of the mass before it and step, mod modulus. A modulus of 0 is
+//   taken as 1, and one above 4294967296 as that. Before the call each byte of the buffer is 9;
 // - for 3, Payload: the number of a field file and that of a block;
 // - for 4, Write a field: the cells, the nodes, the total, the seven lengths of 1, that of the buffer (above 20,000 is taken as 20,000),
 //   and first, step and modulus: list j of the seven, from 0, goes by the rule of 2 with first + j, and a target is what its number stands
@@ -16,10 +16,10 @@
 // - for 5, Read an answer: the number of a file as in 1, with `.answer`, and the length of the list of masses (above 600 is taken as
 //   600). Before the call each entry is 7.
 // Any other kind is a case by itself. Outcomes, totals and steps above 4294967295 are taken as 4294967295.
-// A line has `read` with n, m and M, or of an answer with n, the outcome, M and the change; `bytes` and the file's length; or `refused`
-// with number and place. Then comes, for each lent list that may be written, in the order above, a check number of all its entries, with
-// those past the field or the file. Of a payload it has `payload`, its length and its check number. The cases end with the input, of which
-// at most 65,536 bytes are read.
+// A line has `read` with n, m and M, or of an answer with n, the outcome, M, the change and the sum shared out, which an older file shows
+// as 0; `bytes` and the file's length; or `refused` with number and place. Then comes, for each lent list that may be written, in the
+// order above, a check number of all its entries, with those past the field or the file. Of a payload it has `payload`, its length and its
+// check number. The cases end with the input, of which at most 65,536 bytes are read.
 // Relies on `field_file`, `answer_file` and `blocks`, which it tests, `files_spec` for the answers, `qlt_spec`, `test_support`, `numbers`,
 // and the kit's `io`, `os` and `libc`.
 ghost use Prim.Native.Nat.{_≤_, _<_};

@@ -88,7 +88,7 @@ pub fn print_read(answer: FieldRead) {
     }
 }
 
-// What reading an answer answered: n, the outcome, M and the change, or the refusal.
+// What reading an answer answered: n, the outcome, M, the change and the sum shared out, or the refusal.
 pub fn print_answer(answer: AnswerRead) {
     match answer {
         AnswerRead::Read { cells, repair } => {
@@ -96,6 +96,7 @@ pub fn print_answer(answer: AnswerRead) {
             print_number(wide(repair.outcome));
             print_number(wide(repair.total));
             print_number(repair.change);
+            print_number(repair.shared);
         }
         AnswerRead::Refused { number, place } => print_refusal(number, place),
     }

@@ -9,7 +9,7 @@ use Rattle.numbers.specs.Checks.{eachFrom, firstFrom, checkCount}
 use Rattle.caas_spec.specs.Split.{clip, clipped, deficit, capacity, portion, firstShare, remainder, left, secondShare, shares, result}
 use Rattle.qlt_spec.specs.Tree.{leads, childOf, anyChild, nodeSum, parentOk, nodeOk, massFrom, massAt}
 use Rattle.qlt_spec.specs.Field.{outcome, outcomeNumber, lowIn, highIn, changeOf}
-use Rattle.qlt_spec.specs.Masses.{massBetween, groupOf, treeMass, treeMasses}
+use Rattle.qlt_spec.specs.Masses.{massBetween, groupOf, treeMass, treeMasses, sharedOf, treeShared}
 use Rattle.qlt_spec.specs.Checks.{checkNodes, checkLists, checkTree, boundsOrdered, checkOrder, checkSum, checkReach, checkShape, checkValues}
 use Rattle.qlt_spec.specs.Operation.{repair, cleared}
 use Rattle.kept_spec.specs.declared.Opened.the-variants.{Total}
@@ -28,7 +28,7 @@ opens = record { answers = refl }
 contracts : All Promised events
 unfolding sumTo listTo written minℤ maxℤ quota eachFrom firstFrom checkCount clip clipped deficit capacity portion firstShare remainder left
     secondShare shares result leads childOf anyChild nodeSum parentOk nodeOk massFrom massAt massBetween outcome outcomeNumber lowIn highIn changeOf groupOf
-    treeMass treeMasses checkNodes checkLists checkTree boundsOrdered checkOrder checkSum checkReach checkShape checkValues repair cleared
+    treeMass treeMasses sharedOf treeShared checkNodes checkLists checkTree boundsOrdered checkOrder checkSum checkReach checkShape checkValues repair cleared
     checkTotal checkKept stepVerdict stepTells
 contracts =
     All.more (record { answers = refl; leaves = record { writes = refl; clears = refl } })

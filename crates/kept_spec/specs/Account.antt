@@ -82,7 +82,7 @@ Reachable c = (y : ℕ → ℤ) × Meets (field (c .lists) .n) (field (c .lists)
 pub record AcceptedFacts (c : StepCall) (r : Repair) (kept : List ℕ) : Type 0 where
   -- 'its new total': M is the total given plus the source, and the answer's total is that M
   pub moves : pos (r .total) ≡ next c
-  -- the outcome and the change are those of its field
+  -- the outcome, the change and what was shared out are those of its field
   pub tells : r ≡ repair (c .lists) (r .total)
   -- 'the masses are those that document 01's whole tree gives for its field and new total'
   pub masses : kept ≡ treeMasses (field (c .lists)) (r .total)

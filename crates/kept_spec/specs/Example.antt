@@ -22,7 +22,7 @@ abbrev pub first : Event
 first =
     record {
       call = stepCall 8 (3 ∷ 5 ∷ []) (pos 2) two (replicate 18 (pos 1));
-      answer = Accepted (record { outcome = 0; total = 10; change = 2 });
+      answer = Accepted (record { outcome = 0; total = 10; change = 2; shared = 2 });
       kept = 4 ∷ 6 ∷ [];
       scratch = replicate 18 (pos 0);
     }
@@ -58,7 +58,7 @@ abbrev pub sixth : Event
 sixth =
     record {
       call = stepCall 10 (4 ∷ 6 ∷ []) (negsuc 3) two (replicate 18 (pos 1));
-      answer = Accepted (record { outcome = 0; total = 6; change = 2 });
+      answer = Accepted (record { outcome = 0; total = 6; change = 2; shared = 2 });
       kept = 3 ∷ 3 ∷ [];
       scratch = replicate 18 (pos 0);
     }

@@ -1,7 +1,8 @@
 // A test program: a kept field through years of steps. It opens 8 cells, makes 12,000 Step calls with fields drawn by a generator, some
-// with a fault, and prints a line every 500 calls: the calls accepted and refused, the total standing, and the sum and a check number of
-// the kept masses. The sum must be the total in every line. `stdout` was written by an implementation of 01's own words in another
-// language, and not by this program. Masses stay far below 1000000000, so that the remainders by it, which rule out overflow, change none.
+// with a fault, and prints a line every 500 calls: the calls accepted and refused, the total standing, the sum and a check number of the
+// kept masses, and what the accepted calls have shared out. The sum must be the total in every line. `stdout` was written by an
+// implementation of the papers' own words in another language, and not by this program. Masses stay far below 1000000000, and what is
+// shared out far below 1000000000000, so that the remainders by these, which rule out overflow, change none.
 // Relies on `kept`, which it tests, `kept_spec` and `qlt_spec` for the answers, `test_support`, and `numbers` in proofs.
 ghost use Prim.Native.Nat.{_<_, _≤_};
 use draws::draw;
@@ -14,12 +15,13 @@ mod draws;
 mod fields;
 mod output;
 
-// The generator's state, the calls accepted and refused so far, and the total standing.
+// The generator's state, the calls accepted and refused so far, the total standing, and what the accepted calls have shared out.
 pub struct Run {
     pub state: u32,
     pub accepted: u32,
     pub refused: u32,
     pub total: u32,
+    pub shared: u64,
 }
 
 // One more. Counters and totals stay below 1000000000.
@@ -55,6 +57,7 @@ fn accepted(run: Run, state: u32, repair: Repair) -> Run {
         accepted: more(run.accepted),
         refused: run.refused,
         total: repair.total,
+        shared: run.shared % 1000000000000 + repair.shared % 1000000000000,
     }
 }
 
@@ -65,6 +68,7 @@ fn refused(run: Run, state: u32) -> Run {
         accepted: run.accepted,
         refused: more(run.refused),
         total: run.total,
+        shared: run.shared,
     }
 }
 
@@ -167,6 +171,7 @@ fn all_calls(total: u32, kept: &mut [u32; 8]) {
         accepted: 0,
         refused: 0,
         total,
+        shared: 0,
     };
     let mut i: u64 = 0;
     while i < 24 {

@@ -11,12 +11,14 @@ pub fn show_open(total: u32) {
     end_line();
 }
 
-// The line of a run: the calls, those accepted and refused, the total standing, and the sum and check number of the masses.
+// The line of a run: the calls, those accepted and refused, the total standing, the sum and check number of the masses, and what was
+// shared out.
 pub fn show(calls: u64, run: Run, kept: &[u32; 8]) {
     print_named(b"calls", calls);
     print_named(b" accepted", wide(run.accepted));
     print_named(b" refused", wide(run.refused));
     print_named(b" total", wide(run.total));
     print_check(kept);
+    print_named(b" shared", run.shared);
     end_line();
 }

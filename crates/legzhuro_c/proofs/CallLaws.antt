@@ -1,19 +1,22 @@
 -- From an operation's contract to what its call returns and writes, accepted or refused. Assumes nothing.
 use mathlib.Core.Path.{_≡_, refl, sym, _∙_, ap, subst}
-use mathlib.Core.List.{List, [], _∷_}
+use mathlib.Core.List.{List, [], _∷_, _++_}
 use Prim.Native.Nat.{ℕ, _+_, _*_, _≤_, _<_, _^_}
 use borrow.Author.Tests.{le-leb, lt-leb}
 use lib.IntN.{ℤ}
 use lib.ListN.{length}
 use lib.Ieee.{Float}
+use mir.Syntax.{w64}
+use mir.Val.{toZ, ofZ}
 use Rattle.numbers.specs.declared.Checked.{Checked}
 use Rattle.numbers.specs.declared.Checked.the-variants.{Pass, Fail}
 use Rattle.numbers.specs.Lists.{written, sum}
 use Rattle.numbers.specs.Checks.{refused, after, both, first, checkCount, checkLong}
-use Rattle.numbers.proofs.CheckLaws.{answered-accepted, answered-refused, after-pass, after-fail, both-pass, both-first, both-second, long-decides}
+use Rattle.numbers.proofs.CheckLaws.{answered-accepted, answered-refused, after-pass, after-fail, both-pass, first-append, both-first, both-second, long-decides}
 use Rattle.caas_spec.specs.declared.SplitAnswer.{SplitAnswer}
 use Rattle.caas_spec.specs.declared.SplitAnswer.the-variants as split
-use Rattle.caas_spec.specs.Operation.{SplitCall, splitVerdict, splitTells, SplitContract}
+use Rattle.caas_spec.specs.Operation.{SplitCall, items, splitVerdict, splitMasses, splitDeficit, splitTells, SplitContract}
+use Rattle.caas_spec.proofs.OperationLaws.{split-accepts, split-deficit-read}
 use Rattle.qlt_spec.specs.declared.Repair.{Repair}
 use Rattle.qlt_spec.specs.Field.{cells, nodes}
 use Rattle.qlt_spec.specs.Checks.{checkNodes}
@@ -33,7 +36,7 @@ use Rattle.doubles_spec.specs.declared.Exported.{Exported}
 use Rattle.doubles_spec.specs.declared.Exported.the-variants as exported
 use Rattle.doubles_spec.specs.Import.{importVerdict, importUnits, importTells, ImportContract}
 use Rattle.doubles_spec.specs.Export.{exportVerdict, exportDouble, exportTells, ExportContract}
-use Rattle.legzhuro_c.specs.Calls.{returned, SplitReturns, openCallVerdict, OpenReturns, stepValues, stepCallVerdict, repairWords, StepReturns, importCallVerdict, unitsList, ImportReturns, exportCallVerdict, ExportReturns}
+use Rattle.legzhuro_c.specs.Calls.{returned, splitCallVerdict, SplitReturns, openCallVerdict, OpenReturns, stepValues, stepCallVerdict, repairWords, StepReturns, importCallVerdict, unitsList, ImportReturns, exportCallVerdict, ExportReturns}
 
 -- ---- what a verdict makes of the return value and of a lent list
 
@@ -65,20 +68,50 @@ module _ (k n : ℕ) (v : Checked) where
   pub no-room : k < n → first (checkLong k n ∷ v ∷ []) ≡ Fail 3 0
   no-room h = ap (λ w. both w (both v Pass)) (long-fails k n h)
 
+-- checks of a call's own, and then the operation's verdict
+first-last : (vs : List Checked) (w : Checked) → first (vs ++ (w ∷ [])) ≡ both (first vs) w
+first-last vs w = sym (first-append vs (w ∷ [])) ∙ ap (both (first vs)) (both-pass w)
+
 -- ---- Split
 
-module _ {c : SplitCall} {a : SplitAnswer} {masses : List ℤ} (p : SplitContract c a masses) where
-  pub split-done : a ≡ split.Done → SplitReturns c 0 masses
-  unfolding splitTells
-  split-done e =
-      let v = answered-accepted (splitVerdict c) tt tt (ap splitTells (sym e) ∙ p .answers) .0 in
-      record { returns = ap returned (sym v); writes = p .writes }
+-- the checks of its shape
+abbrev splitShape : SplitCall → List ℤ → Checked
+splitShape c deficit = first (checkCount (items c) ∷ checkLong (length deficit) 1 ∷ [])
 
-  pub split-refused : {r number place : ℕ} → a ≡ split.Refused number place → r ≡ number + place * 2 ^ 32 → SplitReturns c r masses
-  unfolding splitTells
-  split-refused {number = number} {place = place} e z =
-      let v = answered-refused (splitVerdict c) tt number place (ap splitTells (sym e) ∙ p .answers) in
-      record { returns = returned-fail v z; writes = p .writes }
+module _ (c : SplitCall) (deficit : List ℤ) where
+  split-chain : splitCallVerdict c deficit ≡ both (splitShape c deficit) (splitVerdict c)
+  unfolding splitCallVerdict
+  split-chain = first-last (checkCount (items c) ∷ checkLong (length deficit) 1 ∷ []) (splitVerdict c)
+
+  pub split-shape-refused : {r number place : ℕ} → splitShape c deficit ≡ Fail number place → r ≡ number + place * 2 ^ 32 → SplitReturns c deficit r (c .masses) deficit
+  split-shape-refused e z =
+      let v = split-chain ∙ ap (λ w. both w (splitVerdict c)) e in
+      record { returns = returned-fail v z; writes = after-fail _ (c .masses) v; tells = after-fail _ deficit v }
+
+  module _ (e : splitShape c deficit ≡ Pass) where
+    -- a call that passes them has room for d
+    pub split-room : 1 ≤ length deficit
+    split-room = long-decides (length deficit) 1 .passes .0 (both-first _ Pass (both-second (checkCount (items c)) _ e))
+
+    split-past : splitCallVerdict c deficit ≡ splitVerdict c
+    split-past = split-chain ∙ ap (λ w. both w (splitVerdict c)) e
+
+    module _ {a : SplitAnswer} {masses : List ℤ} (p : SplitContract c a masses) where
+      split-writes : masses ≡ after (splitCallVerdict c deficit) (splitMasses c) (c .masses)
+      split-writes = p .writes ∙ after-by (splitMasses c) (c .masses) (sym split-past)
+
+      pub split-done : {d : ℤ} {r : ℕ} {deficit′ : List ℤ} → a ≡ split.Done d → r ≡ 0 → deficit′ ≡ written deficit 0 (toZ w64 (ofZ w64 d) ∷ []) → SplitReturns c deficit r masses deficit′
+      unfolding splitTells
+      split-done {d} s z w =
+          let t = answered-accepted (splitVerdict c) d (splitDeficit c) (ap splitTells (sym s) ∙ p .answers) in
+          let v = split-past ∙ t .0 in
+          record { returns = returned-pass v z; writes = split-writes; tells = after-pass deficit v (w ∙ ap (λ x. written deficit 0 (x ∷ [])) (split-deficit-read c (split-accepts c .0 (t .0)) (t .1))) }
+
+      pub split-refused : {r number place : ℕ} → a ≡ split.Refused number place → r ≡ number + place * 2 ^ 32 → SplitReturns c deficit r masses deficit
+      unfolding splitTells
+      split-refused {number = number} {place = place} s z =
+          let v = split-past ∙ answered-refused (splitVerdict c) (splitDeficit c) number place (ap splitTells (sym s) ∙ p .answers) in
+          record { returns = returned-fail v z; writes = split-writes; tells = after-fail _ deficit v }
 
 -- ---- Open
 
@@ -105,20 +138,15 @@ module _ (kept answer : List ℕ) where
 
 -- ---- Step
 
--- the checks of its shape, and then the operation's own verdict
+-- the checks of its shape
 abbrev pub stepShape : StepCall → List ℕ → Checked
 stepShape c answer = first (checkCount (cells (c .lists)) ∷ checkNodes (cells (c .lists)) (nodes (c .lists)) ∷ checkLong (length answer) stepValues ∷ [])
 
 module _ (c : StepCall) (answer : List ℕ) where
   step-chain : stepCallVerdict c answer ≡ both (stepShape c answer) (stepVerdict c)
   unfolding stepCallVerdict
-  step-chain = go (checkCount (cells (c .lists))) (checkNodes (cells (c .lists)) (nodes (c .lists))) (checkLong (length answer) stepValues) (stepVerdict c)
-    where
-      go : (s t u w : Checked) → both s (both t (both u (both w Pass))) ≡ both (both s (both t (both u Pass))) w
-      go Pass Pass Pass w = both-pass w
-      go Pass Pass (Fail n p) w = refl
-      go Pass (Fail n p) u w = refl
-      go (Fail n p) t u w = refl
+  step-chain =
+      first-last (checkCount (cells (c .lists)) ∷ checkNodes (cells (c .lists)) (nodes (c .lists)) ∷ checkLong (length answer) stepValues ∷ []) (stepVerdict c)
 
   pub step-shape-refused : {r number place : ℕ} → stepShape c answer ≡ Fail number place → r ≡ number + place * 2 ^ 32 → StepReturns c answer r (c .kept) (c .scratch) answer
   step-shape-refused e z =

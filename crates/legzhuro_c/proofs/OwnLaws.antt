@@ -12,12 +12,12 @@ use lib.ListN.{length}
 use lib.Ieee.{Float}
 use Rattle.numbers.specs.declared.Checked.{Checked}
 use Rattle.numbers.specs.declared.Checked.the-variants.{Pass, Fail}
-use Rattle.numbers.specs.Lists.{at, written, sum}
+use Rattle.numbers.specs.Lists.{at, atℤ, written, sum}
 use Rattle.numbers.specs.Checks.{Answered, accepted, refused, answered, unless, both, checkCount, checkLong, Rule, rule, DecidesAll, OneOf, RefuseWith}
 use Rattle.numbers.proofs.TestLaws.{eq-means, lt-means, and-means, and-first, and-second}
 use Rattle.numbers.proofs.CheckLaws.{both-pass}
 use Rattle.numbers.proofs.ChainLaws.{fails-number, broken-first}
-use Rattle.caas_spec.specs.Operation.{SplitCall, splitVerdict, splitTells, splitAnswer, SplitContract}
+use Rattle.caas_spec.specs.Operation.{SplitCall, items, splitVerdict, splitMasses, splitDeficit, splitTells, splitAnswer, SplitContract}
 use Rattle.caas_spec.proofs.OperationLaws.{split-decides, split-numbers}
 use Rattle.qlt_spec.specs.declared.Repair.{Repair}
 use Rattle.qlt_spec.specs.Field.{cells, nodes}
@@ -34,7 +34,7 @@ use Rattle.doubles_spec.specs.Import.{doubleAt, importVerdict, importRules, imp
 use Rattle.doubles_spec.specs.Export.{exportVerdict, exportDouble, exportTells, exportAnswer, ExportContract}
 use Rattle.doubles_spec.proofs.ImportLaws.{import-decides, import-refuses, import-numbers}
 use Rattle.doubles_spec.proofs.ExportLaws.{export-decides, export-numbers, export-meets}
-use Rattle.legzhuro_c.specs.Calls.{returned, toldBy, SplitReturns, openCallVerdict, OpenReturns, stepValues, stepCallVerdict, repairWords, StepReturns, importCallVerdict, unitsList, ImportReturns, exportCallVerdict, ExportReturns, repairIn, unitsIn, doubleIn}
+use Rattle.legzhuro_c.specs.Calls.{returned, toldBy, splitCallVerdict, SplitReturns, openCallVerdict, OpenReturns, stepValues, stepCallVerdict, repairWords, StepReturns, importCallVerdict, unitsList, ImportReturns, exportCallVerdict, ExportReturns, repairIn, unitsIn, doubleIn}
 use Rattle.legzhuro_c.proofs.CallLaws.{after-by, long-passes, long-fails, room, no-room}
 
 -- ---- a return value tells its verdict
@@ -89,17 +89,55 @@ numbered ns d w t n p e = one-word ns t n (w n .0 (fails-number d e))
 pub split-numbered : (c : SplitCall) → Numbered (splitVerdict c)
 split-numbered c = numbered _ (split-decides c) (split-numbers c) refl
 
-split-tells : (a : Answered Unit) → splitTells (splitAnswer a) ≡ a
+split-tells : (a : Answered ℤ) → splitTells (splitAnswer a) ≡ a
 unfolding splitTells
-split-tells (accepted u) = refl
+split-tells (accepted d) = refl
 split-tells (refused number place) = refl
 
-pub split-own : (c : SplitCall) (r : ℕ) (masses : List ℤ) → SplitReturns c r masses → SplitContract c (splitAnswer (toldBy r tt)) masses
-split-own c r masses q =
-    record {
-      answers = split-tells (toldBy r tt) ∙ told-own (splitVerdict c) r tt tt (split-numbered c) (q .returns) (λ e. refl);
-      writes = q .writes;
-    }
+deficit-read : (deficit : List ℤ) (d : ℤ) → atℤ (written deficit 0 (d ∷ [])) 0 ≡ d
+unfolding written
+deficit-read deficit d = refl
+
+module _ (c : SplitCall) (deficit : List ℤ) where
+  -- with room for d, the call's verdict is Split's: 1 stands in it once more
+  split-long : 1 ≤ length deficit → splitCallVerdict c deficit ≡ splitVerdict c
+  unfolding splitCallVerdict splitVerdict
+  split-long h =
+      ap (λ w. both (checkCount (items c)) (both w (both (splitVerdict c) Pass))) (long-passes (length deficit) 1 h) ∙ again (checkCount (items c)) _
+    where
+      again : (s u : Checked) → both s (both (both s u) Pass) ≡ both s u
+      again Pass u = both-pass u
+      again (Fail number place) u = refl
+
+  -- without it, the call is refused with 1 or 3
+  split-no-room : length deficit < 1 → (number : ℕ) × ((splitCallVerdict c deficit ≡ Fail number 0) × ((number ≡ 1) ⊎ (number ≡ 3)))
+  unfolding splitCallVerdict checkCount
+  split-no-room h = go (ltb 0 (items c) && leb (items c) 512) (checkLong (length deficit) 1) (long-fails (length deficit) 1 h) (both (splitVerdict c) Pass)
+    where
+      go : (a : Bool) (v : Checked) → v ≡ Fail 3 0 → (w : Checked) → (number : ℕ) × ((both (unless a 1 0) (both v w) ≡ Fail number 0) × ((number ≡ 1) ⊎ (number ≡ 3)))
+      go false v e w = (1, (refl, inl refl))
+      go true v e w = (3, (ap (λ x. both x w) e, inr refl))
+
+  module _ (r : ℕ) (masses deficit′ : List ℤ) (q : SplitReturns c deficit r masses deficit′) where
+    pub split-own : 1 ≤ length deficit → SplitContract c (splitAnswer (toldBy r (atℤ deficit′ 0))) masses
+    split-own h =
+        let v = split-long h in
+        let d = splitDeficit c in
+        record {
+          answers =
+              split-tells (toldBy r (atℤ deficit′ 0))
+              ∙ told-own (splitVerdict c) r (atℤ deficit′ 0) d (split-numbered c) (q .returns ∙ ap returned v)
+              (λ e. ap (λ l. atℤ l 0) (q .tells ∙ after-by (written deficit 0 (d ∷ [])) deficit (v ∙ e)) ∙ deficit-read deficit d);
+          writes = q .writes ∙ after-by (splitMasses c) (c .masses) v;
+        }
+
+    pub split-short : length deficit < 1 → ((r ≡ 1) ⊎ (r ≡ 3)) × ((masses ≡ c .masses) × (deficit′ ≡ deficit))
+    split-short h =
+        let n = split-no-room h in
+        let e : r ≡ n .0 = q .returns ∙ ap returned (n .1 .0) ∙ omega arith in (
+          ⊎-elim (λ x. inl (e ∙ x)) (λ x. inr (e ∙ x)) (n .1 .1),
+          (q .writes ∙ after-by (splitMasses c) (c .masses) (n .1 .0), q .tells ∙ after-by _ deficit (n .1 .0)),
+        )
 
 -- ---- Open
 

@@ -10,7 +10,7 @@ use Rattle.numbers.specs.declared.Checked.the-variants.{Pass, Fail}
 use Rattle.numbers.specs.Lists.{at, atℤ, written, sum}
 use Rattle.numbers.specs.Signed.{over}
 use Rattle.numbers.specs.Checks.{Answered, accepted, refused, after, first, checkCount, checkLong, Rule, rule}
-use Rattle.caas_spec.specs.Operation.{SplitCall, splitVerdict, splitMasses}
+use Rattle.caas_spec.specs.Operation.{SplitCall, items, splitVerdict, splitMasses, splitDeficit}
 use Rattle.qlt_spec.specs.declared.Repair.{Repair}
 use Rattle.qlt_spec.specs.Field.{cells, nodes}
 use Rattle.qlt_spec.specs.Checks.{checkNodes}
@@ -68,10 +68,14 @@ abbrev pub toldBy : {X : Type 0} → ℕ → X → Answered X
 toldBy zero values = accepted values
 toldBy (suc r) values = refused (suc r % 2 ^ 32) (suc r / 2 ^ 32)
 
--- Split
-pub record SplitReturns (c : SplitCall) (r : ℕ) (masses : List ℤ) : Type 0 where
-  pub returns : r ≡ returned (splitVerdict c)
-  pub writes : masses ≡ after (splitVerdict c) (splitMasses c) (c .masses)
+-- Split: d goes to the first entry of `deficit`, which counts under 3, after 1
+unfoldable pub splitCallVerdict : SplitCall → List ℤ → Checked
+splitCallVerdict c deficit = first (checkCount (items c) ∷ checkLong (length deficit) 1 ∷ splitVerdict c ∷ [])
+
+pub record SplitReturns (c : SplitCall) (deficit : List ℤ) (r : ℕ) (masses deficit′ : List ℤ) : Type 0 where
+  pub returns : r ≡ returned (splitCallVerdict c deficit)
+  pub writes : masses ≡ after (splitCallVerdict c deficit) (splitMasses c) (c .masses)
+  pub tells : deficit′ ≡ after (splitCallVerdict c deficit) (written deficit 0 (splitDeficit c ∷ [])) deficit
 
 -- Open: the total goes to the first entry of the answer
 unfoldable pub openCallVerdict : List ℕ → List ℕ → Checked
@@ -83,14 +87,14 @@ pub record OpenReturns (kept answer : List ℕ) (r : ℕ) (answer′ : List ℕ)
 
 -- Step: what it tells goes to the first entries of the answer, which counts under 3, after 1 and 2
 abbrev pub stepValues : ℕ
-stepValues = 3
+stepValues = 4
 
 unfoldable pub stepCallVerdict : StepCall → List ℕ → Checked
 stepCallVerdict c answer =
     first (checkCount (cells (c .lists)) ∷ checkNodes (cells (c .lists)) (nodes (c .lists)) ∷ checkLong (length answer) stepValues ∷ stepVerdict c ∷ [])
 
 abbrev pub repairWords : Repair → List ℕ
-repairWords r = r .outcome ∷ r .total ∷ r .change ∷ []
+repairWords r = r .outcome ∷ r .total ∷ r .change ∷ r .shared ∷ []
 
 pub record StepReturns (c : StepCall) (answer : List ℕ) (r : ℕ) (kept : List ℕ) (scratch : List ℤ) (answer′ : List ℕ) : Type 0 where
   pub returns : r ≡ returned (stepCallVerdict c answer)
@@ -119,7 +123,7 @@ pub record ExportReturns (mass k : ℕ) (value : List Float) (r : ℕ) (value′
 -- ---- the values in the lent lists, from which the operations' own answers are read off
 
 abbrev pub repairIn : List ℕ → Repair
-repairIn answer = record { outcome = at answer 0; total = at answer 1; change = at answer 2 }
+repairIn answer = record { outcome = at answer 0; total = at answer 1; change = at answer 2; shared = at answer 3 }
 
 abbrev pub unitsIn : List ℤ → CellUnits
 unitsIn units =

@@ -51,4 +51,4 @@ pub record ReadAnswerReturns (file masses answer : List ℕ) (r : ℕ) (masses�
 
 -- the values in the lent list, from which the operation's own answer is read off
 abbrev pub repairedIn : List ℕ → Repaired
-repairedIn answer = record { cells = at answer 0; repair = record { outcome = at answer 1; total = at answer 2; change = at answer 3 } }
+repairedIn answer = record { cells = at answer 0; repair = record { outcome = at answer 1; total = at answer 2; change = at answer 3; shared = at answer 4 } }

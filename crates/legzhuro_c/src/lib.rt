@@ -48,7 +48,7 @@ pub extern "C" fn legzhuro_reconstruct(file: &[u8], answer: &mut [u8]) -> u32
     )
 }
 
-// Split.
+// Split: deficit[0] is 01's d.
 #[no_mangle]
 pub extern "C" fn legzhuro_split(
     targets: &[i64],
@@ -57,14 +57,19 @@ pub extern "C" fn legzhuro_split(
     weights: &[i64],
     total: i64,
     masses: &mut [i64],
+    deficit: &mut [i64],
 ) -> u64
     ensures { λ r.
         ⌜ SplitReturns
-        (splitCall (now (targets .entry)) (now (lows .entry)) (now (highs .entry)) (now (weights .entry)) total (now (masses .entry))) r
-        (now (masses .exit)) ⌝ }
+        (splitCall (now (targets .entry)) (now (lows .entry)) (now (highs .entry)) (now (weights .entry)) total (now (masses .entry)))
+        (now (deficit .entry)) r (now (masses .exit)) (now (deficit .exit)) ⌝ }
 {
+    let shape = returns::split_shape(targets.len(), deficit.len());
+    if let Checked::Fail { number, place } = shape {
+        return returns::refusal(number, place);
+    }
     match split::split(targets, lows, highs, weights, total, masses) {
-        SplitAnswer::Done => 0,
+        SplitAnswer::Done { deficit: d } => returns::put_deficit(d, deficit),
         SplitAnswer::Refused { number, place } => returns::refusal(number, place),
     }
 }
@@ -83,7 +88,7 @@ pub extern "C" fn legzhuro_open(kept: &[u32], answer: &mut [u64]) -> u64
     }
 }
 
-// Step: answer[0] is the outcome, answer[1] the new total, answer[2] the change.
+// Step: answer[0] is the outcome, answer[1] the new total, answer[2] the change, answer[3] what was shared out.
 #[no_mangle]
 pub extern "C" fn legzhuro_step(
     total: u32,
@@ -221,7 +226,8 @@ pub extern "C" fn legzhuro_write_field(
     }
 }
 
-// Read an answer: answer[0] is the number of cells, answer[1] the outcome, answer[2] the total, answer[3] the change.
+// Read an answer: answer[0] is the number of cells, answer[1] the outcome, answer[2] the total, answer[3] the change, answer[4] what was
+// shared out.
 #[no_mangle]
 pub extern "C" fn legzhuro_read_answer(file: &[u8], masses: &mut [u32], answer: &mut [u64]) -> u64
     ensures { λ r.

@@ -24,9 +24,16 @@ pub fn refusal(number: u32, place: u32) -> u64
 }
 
 // The values that Step tells, and those that Read an answer does; `stepValues` and `readValues` in specs/.
-const STEP_VALUES: usize = 3;
+const STEP_VALUES: usize = 4;
 
-const READ_VALUES: usize = 4;
+const READ_VALUES: usize = 5;
+
+// Split's 1, and under 3 the list for d.
+pub fn split_shape(items: usize, deficit: usize) -> Checked
+    ensures { λ r. ⌜ r ≡ first (checkCount items ∷ checkLong deficit 1 ∷ []) ⌝ }
+{
+    then(check_count(items), check_long(deficit, 1))
+}
 
 // Step's 1 and 2, and under 3 the list for its values.
 pub fn step_shape(cells: usize, nodes: usize, answer: usize) -> Checked
@@ -46,6 +53,14 @@ pub fn answer_room(masses: usize, answer: usize) -> usize
 }
 
 // Each of these puts the values of an accepted call and returns 0.
+pub fn put_deficit(d: i64, deficit: &mut [i64]) -> u64
+    requires { ⌜ 1 ≤ length (now deficit) ⌝ }
+    ensures { λ r. ⌜ (r ≡ 0) × (now (deficit .exit) ≡ written (now (deficit .entry)) 0 (d ∷ [])) ⌝ }
+{
+    deficit[0] = d;
+    0
+}
+
 pub fn put_total(total: u32, answer: &mut [u64]) -> u64
     requires { ⌜ 1 ≤ length (now answer) ⌝ }
     ensures { λ r. ⌜ (r ≡ 0) × (now (answer .exit) ≡ written (now (answer .entry)) 0 (total ∷ [])) ⌝ }
@@ -61,6 +76,7 @@ pub fn put_repair(repair: Repair, answer: &mut [u64]) -> u64
     answer[0] = repair.outcome as u64;
     answer[1] = repair.total as u64;
     answer[2] = repair.change;
+    answer[3] = repair.shared;
     0
 }
 
@@ -73,6 +89,7 @@ pub fn put_answer(cells: usize, repair: Repair, answer: &mut [u64]) -> u64
     answer[1] = repair.outcome as u64;
     answer[2] = repair.total as u64;
     answer[3] = repair.change;
+    answer[4] = repair.shared;
     0
 }
 

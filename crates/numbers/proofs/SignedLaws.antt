@@ -201,6 +201,15 @@ over-max a b = go (leZ a b) refl
     go true e = omega (arith, leZ-true a b e, one-part a, one-part b)
     go false e = omega (arith, leZ-false a b e, one-part a, one-part b)
 
+-- the larger of a natural number and any other is not below 0
+pub max-under : (n : ℕ) (b : ℤ) → under (maxℤ (pos n) b) ≡ 0
+unfolding maxℤ
+max-under n b = go (leZ (pos n) b) refl
+  where
+    go : (t : Bool) → leZ (pos n) b ≡ t → under (cond t b (pos n)) ≡ 0
+    go true e = omega (arith, leZ-true (pos n) b e, one-part b)
+    go false e = refl
+
 -- the size and the sign of a difference
 pub minus-size : (a b : ℕ) → natAbs (pos a -ℤ pos b) ≡ gap a b
 minus-size a b = omega (arith, minus-parts (pos a) (pos b), one-part (pos a -ℤ pos b), about (pos a -ℤ pos b))

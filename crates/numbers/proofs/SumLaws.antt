@@ -2,11 +2,12 @@
 use mathlib.Core.Path.{_≡_, refl, sym, _∙_, ap, ap₂}
 use mathlib.Core.Logic.{_≢_}
 use mathlib.Core.Bool.{Bool, true, false}
-use Prim.Native.Nat.{ℕ, zero, suc, _+_, _-_, _≤_, _<_}
+use Prim.Native.Nat.{ℕ, zero, suc, _+_, _-_, _*_, _≤_, _<_}
+use native.Mathlib.Nat.{suc-mul}
 use native.Mathlib.Omega.{arith}
 use native.Mathlib.Decide.{ℕ-discrete}
 use lib.IntN.{ℤ, pos, _+ℤ_}
-use Rattle.numbers.specs.Sums.{Adds, ℕ-adds, ℤ-adds, sumTo, pick}
+use Rattle.numbers.specs.Sums.{Adds, ℕ-adds, ℤ-adds, sumTo, sumFrom, pick}
 use Rattle.numbers.specs.Signed.{over, under, gap}
 use Rattle.numbers.proofs.SignedLaws.{add-parts, over-whole}
 
@@ -26,6 +27,12 @@ module _ (A : Adds) where
   pub sumTo-next : (k : ℕ) (f : ℕ → A .Num) → sumTo A (suc k) f ≡ plus (sumTo A k f) (f k)
   unfolding sumTo
   sumTo-next k f = refl
+
+  -- or one before all others
+  pub sumTo-first : (k : ℕ) (f : ℕ → A .Num) → sumTo A (suc k) f ≡ plus (f 0) (sumTo A k (λ i. f (suc i)))
+  unfolding sumTo
+  sumTo-first zero f = comm none (f 0)
+  sumTo-first (suc k) f = ap (λ x. plus x (f (suc k))) (sumTo-first k f) ∙ assoc (f 0) (sumTo A k (λ i. f (suc i))) (f (suc k))
 
   pub sumTo-ext : (k : ℕ) (f g : ℕ → A .Num) → ((i : ℕ) → i < k → f i ≡ g i) → sumTo A k f ≡ sumTo A k g
   unfolding sumTo
@@ -80,6 +87,21 @@ module _ (A : Adds) where
   sumTo-swap zero l f = sym (sumTo-none l (λ j. none) (λ j h. refl))
   sumTo-swap (suc k) l f = ap (λ x. plus x (sumTo A l (f k))) (sumTo-swap k l f) ∙ sym (sumTo-plus l (λ j. sumTo A k (λ i. f i j)) (f k))
 
+  -- a sum from a on, with one summand more before the others; one without summands
+  pub sumFrom-first : (a k : ℕ) (f : ℕ → A .Num) → a < k → sumFrom A a k f ≡ plus (f a) (sumFrom A (suc a) k f)
+  sumFrom-first a k f l =
+      let e : k - a ≡ suc (k - suc a) = omega arith in
+      let z : a + 0 ≡ a = omega arith in
+      ap (λ j. sumTo A j (λ i. f (a + i))) e
+      ∙ sumTo-first (k - suc a) (λ i. f (a + i))
+      ∙ ap₂ plus (ap f z) (sumTo-ext (k - suc a) _ _ (λ i h. let s : a + suc i ≡ suc a + i = omega arith in ap f s))
+
+  pub sumFrom-none : (a k : ℕ) (f : ℕ → A .Num) → k ≤ a → sumFrom A a k f ≡ none
+  sumFrom-none a k f l = let e : k - a ≡ 0 = omega arith in ap (λ j. sumTo A j (λ i. f (a + i))) e ∙ sumTo-none 0 (λ i. f (a + i)) (λ i h. absurd (omega arith))
+
+  pub sumFrom-ext : (a k : ℕ) (f g : ℕ → A .Num) → ((i : ℕ) → a ≤ i → i < k → f i ≡ g i) → sumFrom A a k f ≡ sumFrom A a k g
+  sumFrom-ext a k f g h = sumTo-ext (k - a) _ _ (λ i l. h (a + i) (omega arith) (omega arith))
+
   -- a sum of which one summand alone counts
   pub sumTo-one : (k : ℕ) (f : ℕ → A .Num) (w : ℕ) → w < k → ((i : ℕ) → i < k → i ≢ w → f i ≡ none) → sumTo A k f ≡ f w
   unfolding sumTo
@@ -108,6 +130,15 @@ grows f k (suc d) = let e : suc d + k ≡ suc (d + k) = omega arith in rw (e, su
 
 pub sumTo-grows : (f : ℕ → ℕ) (k m : ℕ) → k ≤ m → sumTo ℕ-adds k f ≤ sumTo ℕ-adds m f
 sumTo-grows f k m l = let e : m ≡ (m - k) + k = omega arith in rw e (grows f k (m - k))
+
+-- at most as many times the largest summand as there are summands
+sumTo-most : (k b : ℕ) (f : ℕ → ℕ) → ((i : ℕ) → i < k → f i ≤ b) → sumTo ℕ-adds k f ≤ k * b
+unfolding sumTo
+sumTo-most zero b f h = omega arith
+sumTo-most (suc k) b f h = omega (arith, suc-mul k b, sumTo-most k b f (λ i l. h i (omega arith)), h k (omega arith))
+
+pub sumFrom-most : (a k b : ℕ) (f : ℕ → ℕ) → ((i : ℕ) → a ≤ i → i < k → f i ≤ b) → sumFrom ℕ-adds a k f ≤ (k - a) * b
+sumFrom-most a k b f h = sumTo-most (k - a) b (λ i. f (a + i)) (λ i l. h (a + i) (omega arith) (omega arith))
 
 -- sums are no further apart than their summands together
 pub gap-sum : (k : ℕ) (f g : ℕ → ℕ) → gap (sumTo ℕ-adds k f) (sumTo ℕ-adds k g) ≤ sumTo ℕ-adds k (λ i. gap (f i) (g i))

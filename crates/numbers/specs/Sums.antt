@@ -1,7 +1,7 @@
 -- Sums over the numbers below a count, for every kind of number that adds up: ℕ and ℤ are two. Assumes nothing.
 use mathlib.Core.Path.{_≡_}
 use mathlib.Core.Bool.{Bool, true, false}
-use Prim.Native.Nat.{ℕ, zero, suc, _+_}
+use Prim.Native.Nat.{ℕ, zero, suc, _+_, _-_}
 use native.Mathlib.Nat.{add-assoc, add-comm, zero-add}
 use lib.IntN.{ℤ, pos, _+ℤ_, +ℤ-assoc, +ℤ-comm, +ℤ-idl}
 
@@ -25,6 +25,10 @@ module _ (A : Adds) where
   unfoldable pub sumTo : ℕ → (ℕ → A .Num) → A .Num
   sumTo zero f = A .none
   sumTo (suc k) f = A .plus (sumTo k f) (f k)
+
+  -- f a + f (a + 1) + .. + f (k − 1)
+  abbrev pub sumFrom : (a k : ℕ) → (ℕ → A .Num) → A .Num
+  sumFrom a k f = sumTo (k - a) (λ i. f (a + i))
 
   -- x if the test holds, else nothing
   abbrev pub pick : Bool → A .Num → A .Num

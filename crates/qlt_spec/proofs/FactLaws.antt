@@ -8,18 +8,19 @@ use native.Mathlib.Omega.{arith}
 use lib.IntN.{ℤ, pos, natAbs, _-ℤ_}
 use Rattle.numbers.specs.Sums.{ℕ-adds, ℤ-adds, sumTo}
 use Rattle.numbers.specs.Lists.{at}
-use Rattle.numbers.proofs.SumLaws.{sumTo-ext, sumTo-pos}
+use Rattle.numbers.proofs.SumLaws.{sumTo-ext, sumFrom-ext, sumTo-pos}
 use Rattle.numbers.proofs.ListLaws.{length-listTo, getD-listTo}
-use Rattle.caas_spec.specs.Group.{Group, Each, Splits, Divides, distance}
-use Rattle.caas_spec.specs.Split.{result, Proportional}
-use Rattle.caas_spec.proofs.GroupLaws.{in-none, in-pos}
-use Rattle.caas_spec.proofs.SplitLaws.{nat-within, result-nearest, distance-ext, result-proportional}
+use Rattle.caas_spec.specs.Group.{Group, Each, Splits, Divides, sumIn, distance}
+use Rattle.caas_spec.specs.Split.{clipped, deficit, result, Proportional}
+use Rattle.caas_spec.proofs.GroupLaws.{in-ext, in-none, in-pos}
+use Rattle.caas_spec.proofs.SplitLaws.{nat-within, moved-adds, result-nearest, distance-ext, result-proportional}
 use Rattle.qlt_spec.specs.Tree.{childOf, Valid}
 use Rattle.qlt_spec.specs.Field.{Field, Outcome, Ordered, outcome, lowIn, highIn, Meets, changeOf, sumCells}
-use Rattle.qlt_spec.specs.Masses.{groupOf, treeMass, treeMasses}
-use Rattle.qlt_spec.specs.Facts.{Summed, FieldFacts}
+use Rattle.qlt_spec.specs.Masses.{groupOf, treeMass, treeMasses, sharedOf, treeShared}
+use Rattle.qlt_spec.specs.Facts.{sharedBy, Summed, FieldFacts}
 use Rattle.qlt_spec.proofs.TreeLaws.{nodeSum-inner, nodeSum-cell, nodeSum-ext}
 use Rattle.qlt_spec.proofs.MassLaws.{node, InBounds}
+use Rattle.qlt_spec.proofs.SharedLaws.{shared-none}
 use Rattle.qlt_spec.proofs.BetweenLaws.{between-root, between-up, between-child, between-in, between-can, between-sum, between-all}
 use Rattle.qlt_spec.proofs.FieldLaws.{Case, is-attainable, is-below, is-above, case, force-room, force-order, force-safe-low, force-safe-high}
 use Rattle.qlt_spec.proofs.MissLaws.{meets-room, least-of}
@@ -60,6 +61,11 @@ module _ (F : Field) (M : ℕ) where
   change-list : changeOf F (treeMass F M) ≡ changeOf F listMass
   unfolding changeOf
   change-list = sumTo-ext ℕ-adds (F .n) _ _ (λ c l. ap (λ x. natAbs (pos x -ℤ F .target c)) (sym (list-at c l)))
+
+  -- a field of one node shares out 0
+  shared-alone : F .m ≤ F .n → treeShared F M ≡ 0
+  unfolding treeShared
+  shared-alone h = shared-none (F .m) (group) (treeMass F M) (F .n) h
 
   -- the children are taken with the sums over their cells
   summed : (v : ℕ) → F .n ≤ v → v < F .m → Each (group v) (λ u. Summed F M (treeMasses F M) v u)
@@ -160,6 +166,18 @@ module _ (F : Field) (ok : Valid (F .up) (F .n) (F .m)) (ordered : (c : ℕ) →
           sum = in-pos (group F M v) (massByList F M) ∙ ap pos (sym (nodeSum-inner ok ℕ-adds (listMass F M) v h l));
         }
 
+    -- what is shared out, by the list
+    shared-list : treeShared F M ≡ sharedBy F M (treeMasses F M)
+    unfolding treeShared sharedOf deficit
+    shared-list = sumFrom-ext ℕ-adds (F .n) (F .m) _ _ (λ v h l. ap (λ x. natAbs (deficit (group F M v) x)) (sym (list-node v l)))
+
+    moves-list :
+        (v : ℕ) → F .n ≤ v → v < F .m
+        → sumIn ℕ-adds (group F M v) (λ u. natAbs (pos (massByList F M u) -ℤ pos (clipped (group F M v) u))) ≡ natAbs (deficit (group F M v) (massByList F M v))
+    moves-list v h l =
+        in-ext (group F M v) ℕ-adds _ _ (λ u k e. ap (λ x. natAbs (pos x -ℤ pos (clipped (group F M v) u))) (split-list v l u k e))
+        ∙ moved-adds (group F M v) (massByList F M v) (can-list v h l)
+
     -- no division is nearer to the children's targets
     nearest-list :
         (v : ℕ) → F .n ≤ v → v < F .m → (y : ℕ → ℤ) → Divides (group F M v) (massByList F M v) y
@@ -226,5 +244,8 @@ module _ (F : Field) (ok : Valid (F .up) (F .n) (F .m)) (ordered : (c : ℕ) →
         nearest = nearest-list M least most;
         reachable = reachable-sums M;
         change = change-list F M;
+        shared = shared-list M least most;
+        alone = λ e. shared-alone F M (omega (arith, ok .some));
+        moves = moves-list M least most;
         proportional = proportional-list M least most;
       }

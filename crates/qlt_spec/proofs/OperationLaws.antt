@@ -22,7 +22,7 @@ use Rattle.qlt_spec.specs.Field.{Lists, cells, nodes, scratchPerNode, fi
 use Rattle.qlt_spec.specs.Masses.{treeMasses}
 use Rattle.qlt_spec.specs.Checks.{shapeOf, checkValues, checkReach}
 use Rattle.qlt_spec.specs.Operation.{ReconstructCall, reconstructVerdict, shapeRules, valueRules, reconstructRules, ShapeFits, ValuesFit, ReconstructFits, repair, reconstructTells, reconstructAnswer, cleared, RepairContract, ReconstructContract}
-use Rattle.qlt_spec.specs.Facts.{FieldFacts}
+use Rattle.qlt_spec.specs.Facts.{sharedBy, FieldFacts}
 use Rattle.qlt_spec.proofs.FactLaws.{facts}
 use Rattle.qlt_spec.proofs.CheckLaws.{shape-decides, shape-fits, values-decides, values-fit, reaches-decides, reaches, valid}
 
@@ -131,3 +131,10 @@ contract-done c {told} {masses} {scratch} e p = subst (λ w. RepairContract w c 
 pub done-facts : {c : ReconstructCall} (r : Repair) {masses : List ℕ} {scratch : List ℤ} → ReconstructContract c (Done r) masses scratch → FieldFacts (field (c .lists)) (c .total) masses
 unfolding reconstructTells
 done-facts {c} r p = subst (FieldFacts (field (c .lists)) (c .total)) (sym (told-masses p)) (fits-facts c (reconstruct-accepts c .0 (told-passed p)))
+
+-- what is told to be shared out, by the masses written: of Reconstruct's answer and of an accepted step's alike
+pub told-shared :
+    (f : Lists) (M : ℕ) {r : Repair} {x : List ℕ} → r ≡ repair f M → FieldFacts (field f) M x
+    → r .shared ≡ sharedBy (field f) M x
+unfolding repair
+told-shared f M e p = ap (λ q. q .shared) e ∙ p .shared

@@ -3,15 +3,15 @@ use mathlib.Core.Path.{_≡_}
 use mathlib.Core.Logic.{_↔_}
 use mathlib.Core.List.{List}
 use Prim.Native.Nat.{ℕ, _-_, _≤_, _<_}
-use lib.IntN.{ℤ, pos}
+use lib.IntN.{ℤ, pos, natAbs, _-ℤ_}
 use lib.ListN.{length}
-use Rattle.numbers.specs.Sums.{ℕ-adds, ℤ-adds, sumTo}
+use Rattle.numbers.specs.Sums.{ℕ-adds, ℤ-adds, sumTo, sumFrom}
 use Rattle.numbers.specs.Lists.{at}
-use Rattle.caas_spec.specs.Group.{Group, Each, Divides, distance}
-use Rattle.caas_spec.specs.Split.{result, Proportional}
+use Rattle.caas_spec.specs.Group.{Group, Each, Divides, sumIn, distance}
+use Rattle.caas_spec.specs.Split.{clipped, deficit, result, Proportional}
 use Rattle.qlt_spec.specs.Tree.{nodeSum}
 use Rattle.qlt_spec.specs.Field.{Field, outcome, Meets, missOf, changeOf, sumCells, lowIn, highIn}
-use Rattle.qlt_spec.specs.Masses.{groupOf, treeMass, treeMasses}
+use Rattle.qlt_spec.specs.Masses.{groupOf, treeMass, treeMasses, treeShared}
 
 module _ (F : Field) (M : ℕ) (x : List ℕ) where
   -- a node's mass: the sum of the cells' masses over its cells
@@ -21,6 +21,11 @@ module _ (F : Field) (M : ℕ) (x : List ℕ) where
   -- a node's children with their bounds in force
   abbrev pub children : ℕ → Group
   children v = groupOf F (outcome F M) v
+
+  -- what is shared out: the sum over inner nodes of the absolute difference between the node's mass and the sum of its children's clipped
+  -- targets
+  abbrev pub sharedBy : ℕ
+  sharedBy = sumFrom ℕ-adds (F .n) (F .m) (λ v. natAbs (pos (nodeMass v) -ℤ pos (sumIn ℕ-adds (children v) (clipped (children v)))))
 
   -- a fact of each inner node
   abbrev pub AtInner : (ℕ → Type 0) → Type 0
@@ -58,6 +63,12 @@ module _ (F : Field) (M : ℕ) (x : List ℕ) where
     pub reachable : ((y : ℕ → ℤ) × Meets (F .n) (F .safeLow) (F .safeHigh) (pos M) y) ↔ ((sumCells F (F .safeLow) ≤ M) × (M ≤ sumCells F (F .safeHigh)))
     -- the change that is told is the sum over cells of the absolute mass minus target, of these very masses
     pub change : changeOf F (treeMass F M) ≡ changeOf F (at x)
+    -- what is told to be shared out is that of these very masses; a field of one node shares out 0
+    pub shared : treeShared F M ≡ sharedBy
+    pub alone : F .m ≡ 1 → treeShared F M ≡ 0
+    -- at each inner node the difference is what the children's masses differ from their clipped targets by, in sum
+    pub moves :
+        AtInner (λ v. sumIn ℕ-adds (children v) (λ u. natAbs (pos (nodeMass u) -ℤ pos (clipped (children v) u))) ≡ natAbs (deficit (children v) (nodeMass v)))
     -- where the children have no weight, each share is less than one unit from the published proportion
     pub proportional :
         AtInner (λ v. Each (children v) (λ u. children v .weight u ≡ 0) → Each (children v) (λ u. Proportional (children v) (nodeMass v) (pos (nodeMass u)) u))

@@ -1,11 +1,12 @@
--- The whole tree: the root has mass M, and each inner node's mass is split among its children, bounds in force summed. Assumes nothing.
+-- The whole tree: the root has mass M, and each inner node's mass is split among its children, bounds in force summed; and how much the
+-- splits share out. Assumes nothing.
 use mathlib.Core.List.{List}
 use Prim.Native.Nat.{ℕ}
-use lib.IntN.{ℤ}
-use Rattle.numbers.specs.Sums.{ℕ-adds, ℤ-adds}
+use lib.IntN.{ℤ, natAbs}
+use Rattle.numbers.specs.Sums.{ℕ-adds, ℤ-adds, sumFrom}
 use Rattle.numbers.specs.Lists.{listTo}
 use Rattle.caas_spec.specs.Group.{Group}
-use Rattle.caas_spec.specs.Split.{result}
+use Rattle.caas_spec.specs.Split.{deficit, result}
 use Rattle.qlt_spec.specs.Tree.{childOf, nodeSum, massAt}
 use Rattle.qlt_spec.specs.Field.{Field, Outcome, outcome, lowIn, highIn}
 
@@ -40,3 +41,13 @@ treeMass F M = massBetween (F .up) (F .n) (F .m) (F .target) (F .weight) (lowIn 
 
 unfoldable pub treeMasses : Field → ℕ → List ℕ
 treeMasses F M = listTo (F .n) (treeMass F M)
+
+-- ---- how much is shared out (ticket 2 of 02)
+
+-- the sum of the sizes of d over the inner nodes, n to m − 1, where node v has the mass `mass v` and the children `children v`
+unfoldable pub sharedOf : (n m : ℕ) (children : ℕ → Group) (mass : ℕ → ℕ) → ℕ
+sharedOf n m children mass = sumFrom ℕ-adds n m (λ v. natAbs (deficit (children v) (mass v)))
+
+-- that of the whole tree
+unfoldable pub treeShared : Field → ℕ → ℕ
+treeShared F M = sharedOf (F .n) (F .m) (groupOf F (outcome F M)) (treeMass F M)

@@ -12,7 +12,7 @@ use Rattle.qlt_spec.specs.declared.Reconstructed.{Reconstructed}
 use Rattle.qlt_spec.specs.declared.Reconstructed.the-variants.{Done, Refused}
 use Rattle.qlt_spec.specs.Tree.{NodeRules}
 use Rattle.qlt_spec.specs.Field.{Lists, cells, nodes, scratchPerNode, field, Ordered, outcome, outcomeNumber, changeOf}
-use Rattle.qlt_spec.specs.Masses.{treeMass, treeMasses}
+use Rattle.qlt_spec.specs.Masses.{treeMass, treeMasses, treeShared}
 use Rattle.qlt_spec.specs.Checks.{shapeOf, checkValues, checkReach}
 
 -- all that a call is given
@@ -100,7 +100,7 @@ pub record ReconstructFits (c : ReconstructCall) : Type 0 where
 
 -- what an accepted call gives beside the masses
 unfoldable pub repair : Lists → ℕ → Repair
-repair f M = record { outcome = outcomeNumber (outcome (field f) M); total = M; change = changeOf (field f) (treeMass (field f) M) }
+repair f M = record { outcome = outcomeNumber (outcome (field f) M); total = M; change = changeOf (field f) (treeMass (field f) M); shared = treeShared (field f) M }
 
 -- what an answer tells, and the answer that tells it
 unfoldable pub reconstructTells : Reconstructed → Answered Repair

@@ -5,11 +5,13 @@
 // The numbers of scratch for each node; `scratchPerNode` in specs/Field.antt.
 pub const SCRATCH_PER_NODE: usize = 6;
 
-// What an accepted field gives beside its masses, in 01's terms: the outcome, M and the change.
+// What an accepted field gives beside its masses, in 01's terms: the outcome, M and the change; and the sum of the sizes of d over all inner
+// nodes, which ticket 2 of 02 calls shared out.
 pub struct Repair {
     pub outcome: u32,
     pub total: u32,
     pub change: u64,
+    pub shared: u64,
 }
 
 // Reconstruct's answer: the masses are written, or the call is refused with 01's number and place.

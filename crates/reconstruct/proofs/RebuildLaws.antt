@@ -12,12 +12,12 @@ use Rattle.numbers.specs.Lists.{at, atℤ, sum}
 use Rattle.numbers.specs.Checks.{accepted}
 use Rattle.numbers.proofs.SumLaws.{sumTo-ext, sumTo-le}
 use Rattle.numbers.proofs.ListLaws.{listTo-ext}
-use Rattle.qlt_spec.specs.Field.{Lists, Field, cells, field, sumCells, Outcome, attainable, below, above, outcomeBy, outcome, outcomeNumber, lowIn, highIn, changeOf}
-use Rattle.qlt_spec.specs.Masses.{massBetween, treeMass, treeMasses}
+use Rattle.qlt_spec.specs.Field.{Lists, Field, cells, nodes, field, sumCells, Outcome, attainable, below, above, outcomeBy, outcome, outcomeNumber, lowIn, highIn, changeOf}
+use Rattle.qlt_spec.specs.Masses.{childrenBetween, massBetween, groupOf, treeMass, treeMasses, sharedOf, treeShared}
 use Rattle.qlt_spec.specs.Operation.{ReconstructCall, FieldLengths, ReconstructFits, repair, RepairContract}
 use Rattle.qlt_spec.proofs.FieldLaws.{force-room, force-order, force-safe-high}
 use Rattle.qlt_spec.proofs.OperationLaws.{fits-valid}
-use Rattle.solve_spec.specs.Solve.{massOf, Solvable, Solved}
+use Rattle.solve_spec.specs.Solve.{nodeGroup, massOf, Solvable, Solved}
 use Rattle.field_checks.proofs.CodeLaws.{outcome-is}
 use Rattle.reconstruct.specs.Rebuild.{lowList, highList, callOutcome, Rebuilt}
 
@@ -110,14 +110,20 @@ module _ (c : ReconstructCall) (ok : ReconstructFits c) (o : Outcome) (e : outco
   unfolding treeMass
   mass-same i = sym (ap₂ (λ lo hi. massBetween (F .up) (F .n) (F .m) (F .target) (F .weight) lo hi (c .total) i) lows-are highs-are)
 
+  -- and what it shares out
+  shared-same : sharedOf (cells f) (nodes f) (nodeGroup (f .parents) (f .targets) (lowList o f) (highList o f) (f .weights)) (massOf (f .parents) (f .targets) (lowList o f) (highList o f) (f .weights) (c .total)) ≡ treeShared F (c .total)
+  unfolding treeShared groupOf treeMass
+  shared-same = sym (ap₂ (λ lo hi. sharedOf (F .n) (F .m) (childrenBetween (F .up) (F .n) (F .m) (F .target) (F .weight) lo hi) (massBetween (F .up) (F .n) (F .m) (F .target) (F .weight) lo hi (c .total))) lows-are highs-are)
+
   pub rebuilt :
-      {change : ℕ} {masses : List ℕ} {scratch : List ℤ}
-      → Solved (f .parents) (f .targets) (lowList o f) (highList o f) (f .weights) (c .total) (c .scratch) scratch masses change
-      → Rebuilt c change masses scratch
+      {change shared : ℕ} {masses : List ℕ} {scratch : List ℤ}
+      → Solved (f .parents) (f .targets) (lowList o f) (highList o f) (f .weights) (c .total) (c .scratch) scratch masses change shared
+      → Rebuilt c change shared masses scratch
   unfolding treeMasses changeOf
   rebuilt p =
       record {
         moves = p .moves ∙ sumTo-ext ℕ-adds (cells f) _ _ (λ i l. ap (λ x. natAbs (pos x -ℤ atℤ (f .targets) i)) (mass-same i));
+        shares = p .shares ∙ shared-same;
         leaves = record { writes = p .gives ∙ listTo-ext (cells f) _ _ (λ i l. mass-same i); clears = p .leaves };
       }
 
@@ -147,11 +153,13 @@ outcome-found c ok e = let l = ok .shape .lengths in e ∙ ap outcomeNumber (out
 
 -- what is told of a call that was rebuilt
 pub repaired :
-    (c : ReconstructCall) {x y : ℕ} {masses : List ℕ} {scratch : List ℤ} → x ≡ callOutcome c → Rebuilt c y masses scratch
-    → RepairContract Pass c (accepted (record { outcome = x; total = c .total; change = y })) masses scratch
+    (c : ReconstructCall) {x y z : ℕ} {masses : List ℕ} {scratch : List ℤ} → x ≡ callOutcome c → Rebuilt c y z masses scratch
+    → RepairContract Pass c (accepted (record { outcome = x; total = c .total; change = y; shared = z })) masses scratch
 unfolding repair
-repaired c e p =
+repaired c {z = z} e p =
     record {
-      answers = ap₂ (λ x y. accepted (record { outcome = x; total = c .total; change = y })) e (p .moves);
+      answers =
+          ap₂ (λ x y. accepted (record { outcome = x; total = c .total; change = y; shared = z })) e (p .moves)
+          ∙ ap (λ w. accepted (record { outcome = callOutcome c; total = c .total; change = changeOf (field (c .lists)) (treeMass (field (c .lists)) (c .total)); shared = w })) (p .shares);
       leaves = p .leaves;
     }

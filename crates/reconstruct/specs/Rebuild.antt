@@ -5,7 +5,7 @@ use Prim.Native.Nat.{ℕ}
 use lib.IntN.{ℤ}
 use Rattle.numbers.specs.declared.Checked.the-variants.{Pass}
 use Rattle.qlt_spec.specs.Field.{Lists, field, Outcome, attainable, below, above, outcome, outcomeNumber, changeOf}
-use Rattle.qlt_spec.specs.Masses.{treeMass}
+use Rattle.qlt_spec.specs.Masses.{treeMass, treeShared}
 use Rattle.qlt_spec.specs.Operation.{ReconstructCall, Leaves}
 
 -- the lists of the bounds in force
@@ -23,7 +23,8 @@ highList above f = f .safeHighs
 abbrev pub callOutcome : ReconstructCall → ℕ
 callOutcome c = outcomeNumber (outcome (field (c .lists)) (c .total))
 
--- the change, and what an accepted call leaves
-pub record Rebuilt (c : ReconstructCall) (change : ℕ) (masses : List ℕ) (scratch : List ℤ) : Type 0 where
+-- the change, what is shared out, and what an accepted call leaves
+pub record Rebuilt (c : ReconstructCall) (change shared : ℕ) (masses : List ℕ) (scratch : List ℤ) : Type 0 where
   pub moves : change ≡ changeOf (field (c .lists)) (treeMass (field (c .lists)) (c .total))
+  pub shares : shared ≡ treeShared (field (c .lists)) (c .total)
   pub leaves : Leaves Pass c masses scratch

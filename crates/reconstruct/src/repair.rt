@@ -7,6 +7,7 @@ ghost use Rattle.qlt_spec.specs.Operation.{reconstructCall, ReconstructFits, Re
 ghost use Rattle.reconstruct.specs.Rebuild.{callOutcome, Rebuilt};
 use field_checks::total::outcome_of;
 use qlt_spec::Repair;
+use solve::whole_tree::Moved;
 use solve::whole_tree::solve;
 
 // The masses of a call that fits, by the bounds in force: low to high, safe low to low, or high to safe high.
@@ -22,7 +23,7 @@ fn rebuild(
     total: u32,
     masses: &mut [u32],
     scratch: &mut [i64],
-) -> u64
+) -> Moved
     requires { ⌜ ReconstructFits
         (reconstructCall (lists (now targets) (now lows) (now highs) (now «safe_lows») (now «safe_highs») (now weights) (now parents)) total
         (now masses) (now scratch)) ⌝ }
@@ -35,7 +36,7 @@ fn rebuild(
         (lists (now (targets .entry)) (now (lows .entry)) (now (highs .entry)) (now («safe_lows» .entry)) (now («safe_highs» .entry))
         (now (weights .entry)) (now (parents .entry)))
         total (now (masses .entry)) (now (scratch .entry)))
-        r (now (masses .exit)) (now (scratch .exit)) ⌝ }
+        (r .change) (r .shared) (now (masses .exit)) (now (scratch .exit)) ⌝ }
 {
     let mass = total as u64;
     if outcome == 0 {
@@ -99,7 +100,7 @@ pub fn repaired(
         (accepted r) (now (masses .exit)) (now (scratch .exit)) ⌝ }
 {
     let outcome = outcome_of(lows, highs, total);
-    let change = rebuild(
+    let moved = rebuild(
         outcome,
         targets,
         lows,
@@ -115,6 +116,7 @@ pub fn repaired(
     Repair {
         outcome,
         total,
-        change,
+        change: moved.change,
+        shared: moved.shared,
     }
 }

@@ -1,14 +1,14 @@
 // A test program: runs Reconstruct on cases from standard input, and prints a line for each. The file `stdin` has the cases; `stdout`
-// was written by an implementation of 01's own words in another language, and not by this program.
+// was written by an implementation of the papers' own words in another language, and not by this program.
 // The input is whole numbers with spaces and line ends between them. A case is ten numbers: the lengths of the lists of targets, lows,
 // highs, safe lows, safe highs, weights, parents and masses and of the scratch, and the total. A length below 0 is taken as 0, and one
 // above 600, of the parents 1,100 and of the scratch 6,600, as that. Then come the targets, lows, highs, safe lows, safe highs, weights
 // and parents. Each list is given in runs, a count and a number that stands that many times, until it is full; a count below 1 is taken
 // as 1. A number beyond the range of its list is taken as the end of that range. Before the call each mass is 7 and each number of the
 // scratch 5.
-// A line has `done` with outcome, total and change, or `refused` with number and place; then the masses as the call left them, up to 16
-// of them, or of more their sum and a check number; then `scratch`, how many of its first 6 × m numbers are 0, how many of the later
-// ones are still 5, and how many of the first. The cases end with the input, of which at most 65,536 bytes are read.
+// A line has `done` with outcome, total, change and the sum shared out, or `refused` with number and place; then the masses as the call
+// left them, up to 16 of them, or of more their sum and a check number; then `scratch`, how many of its first 6 × m numbers are 0, how
+// many of the later ones are still 5, and how many of the first. The cases end with the input, of which at most 65,536 bytes are read.
 // Relies on `reconstruct`, which it tests, `qlt_spec` for the answer, `test_support`, `numbers`, and the kit's `io` and `libc`.
 ghost use Prim.Native.Nat.{_≤_};
 ghost use lib.ListN.{length};

@@ -35,11 +35,12 @@ fn count(xs: &[i64], x: i64) -> usize {
     n
 }
 
-// What an accepted call gives: outcome, total and change.
+// What an accepted call gives: outcome, total, change and the sum shared out.
 fn print_repair(repair: Repair) {
     print_named(b"done", wide(repair.outcome));
     print_number(wide(repair.total));
     print_number(repair.change);
+    print_number(repair.shared);
 }
 
 // The answer: what an accepted call gives, or the refusal's number and place.

@@ -6,12 +6,15 @@ use Prim.Native.Nat.{ℕ, _+_, _-_, _^_, _≤_, _<_, min}
 use native.Mathlib.Omega.{arith}
 use native.Mathlib.Nat.{lt-of-le-of-lt}
 use lib.IntN.{ℤ, pos, natAbs, _-ℤ_}
+use mir.Syntax.{w64}
+use mir.Val.{toZ, ofZ}
 use Rattle.numbers.specs.Sums.{ℕ-adds}
 use Rattle.numbers.specs.Signed.{over}
+use Rattle.numbers.proofs.SignedLaws.{about, read-back}
 use Rattle.caas_spec.specs.Group.{Group, Each, sumIn}
 use Rattle.caas_spec.specs.Split.{clipped, deficit, surplus, room, capacity, portion, firstShare, remainder, left, secondShare, moved, shares, result}
 use Rattle.caas_spec.proofs.PortionLaws.{portion-most, first-is, second-is, firsts-most, remainder-is, lefts, remainder-room}
-use Rattle.caas_spec.proofs.SplitLaws.{enough, clipped-most, room-most}
+use Rattle.caas_spec.proofs.SplitLaws.{enough, clipped-most, room-most, deficit-most}
 use Rattle.caas_spec.proofs.ExtLaws.{all-ext, portion-ext}
 use Rattle.scratch_spec.specs.Chain.{onChain}
 use Rattle.scratch_spec.specs.Columns.{MASS, LOW, HIGH, WEIGHT, FIRST, NEXT, num, OnlyColumn}
@@ -76,7 +79,11 @@ module _ {m v : ℕ} {s : List ℤ} (ok : Splitting m v s) where
   caps-small = lt-of-le-of-lt (room-most G M (ok .can) (surplus (deficit G M))) (ok .small)
 
   pub deficit-small : D < 2 ^ 31
-  deficit-small = omega (arith, enough G M (ok .can), caps-small)
+  deficit-small = omega (arith, deficit-most G M (ok .can), ok .small)
+
+  -- so d is read as it is from 64 bits
+  pub deficit-read : {d : ℤ} → d ≡ deficit G M → toZ w64 (ofZ w64 d) ≡ deficit G M
+  deficit-read e = ap (λ z. toZ w64 (ofZ w64 z)) e ∙ read-back (deficit G M) (omega (arith, about (deficit G M), deficit-small))
 
   module _ {s₁ : List ℤ} {sum all : ℕ} (c : Clipped m v s s₁ sum all) where
     -- d, as the code has it

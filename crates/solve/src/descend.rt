@@ -7,6 +7,7 @@ ghost use Rattle.scratch_spec.specs.Columns.{width, FIRST, num};
 ghost use Rattle.qlt_spec.specs.Tree.{Valid};
 ghost use Rattle.solve_spec.specs.Descent.{Linked, SameData, Descending, Descended};
 use crate::load::wide;
+use numbers::arith::magnitude;
 use numbers::arith::stored_index;
 use scratch_spec::FIRST;
 use scratch_spec::NEXT;
@@ -34,16 +35,20 @@ pub fn link(parents: &[u32], m: usize, s: &mut [i64])
     }
 }
 
-// Splits each inner node's mass among its children: the masses of all nodes take their targets' place, and the root's is given.
-pub fn descend(parents: &[u32], n: usize, m: usize, s: &mut [i64])
+// Splits each inner node's mass among its children: the masses of all nodes take their targets' place, and the root's is given. Gives the sum
+// of the sizes of d.
+pub fn descend(parents: &[u32], n: usize, m: usize, s: &mut [i64]) -> u64
     requires { ⌜ m ≤ length (now parents) ⌝ }
     requires { ⌜ Descending (at (now parents)) n m (now s) ⌝ }
-    ensures { λ _. ⌜ Descended (at (now (parents .entry))) m (now (s .entry)) (now (s .exit)) ⌝ }
+    ensures { λ r. ⌜ Descended (at (now (parents .entry))) n m (now (s .entry)) (now (s .exit)) r ⌝ }
 {
     link(parents, m, s);
     let mut v = m;
+    let mut shared: u64 = 0;
     while n < v {
         v -= 1;
-        split_group(s, m, v);
+        let d = split_group(s, m, v);
+        shared += magnitude(d);
     }
+    shared
 }

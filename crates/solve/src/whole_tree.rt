@@ -43,8 +43,14 @@ fn prepare(
     put(s, MASS, m - 1, mass);
 }
 
-// The cells' masses, where the root has `mass` and each node's low and high are the sums of its cells'; gives the change that they make.
-// The scratch's first rows, one for each node, are 0 afterwards.
+// The change that masses make, and how much the splits share out.
+pub struct Moved {
+    pub change: u64,
+    pub shared: u64,
+}
+
+// The cells' masses, where the root has `mass` and each node's low and high are the sums of its cells'; gives the change that they make and
+// how much was shared out. The scratch's first rows, one for each node, are 0 afterwards.
 pub fn solve(
     parents: &[u32],
     targets: &[i32],
@@ -54,16 +60,17 @@ pub fn solve(
     mass: u64,
     s: &mut [i64],
     masses: &mut [u32],
-) -> u64
+) -> Moved
     requires { ⌜ Solvable (now parents) (now targets) (now lows) (now highs) (now weights) mass (now s) ⌝ }
     requires { ⌜ length (now masses) ≡ length (now targets) ⌝ }
     ensures { λ r.
         ⌜ Solved (now (parents .entry)) (now (targets .entry)) (now (lows .entry)) (now (highs .entry)) (now (weights .entry)) mass
-        (now (s .entry)) (now (s .exit)) (now (masses .exit)) r ⌝ }
+        (now (s .entry)) (now (s .exit)) (now (masses .exit)) (r .change) (r .shared) ⌝ }
 {
     prepare(parents, targets, lows, highs, weights, mass, s);
-    descend(parents, targets.len(), parents.len(), s);
+    let shared = descend(parents, targets.len(), parents.len(), s);
     take_out(s, masses);
     clear(s, WIDTH * parents.len());
-    change(masses, targets)
+    let change = change(masses, targets);
+    Moved { change, shared }
 }

@@ -2,23 +2,27 @@
 use mathlib.Core.Path.{_≡_, refl, sym, _∙_, ap, ap₂, subst}
 use mathlib.Core.Bool.{true}
 use mathlib.Core.List.{List}
-use Prim.Native.Nat.{ℕ, _-_, _^_, _≤_, _<_}
+use Prim.Native.Nat.{ℕ, suc, _+_, _-_, _*_, _^_, _≤_, _<_}
+use native.Mathlib.Nat.{mul-le-mul-right}
 use native.Mathlib.Omega.{arith}
 use native.Mathlib.Decide.{ℕ-discrete}
-use lib.IntN.{ℤ, pos}
+use lib.IntN.{ℤ, pos, natAbs}
 use Rattle.numbers.specs.Sums.{ℕ-adds}
 use Rattle.numbers.specs.Signed.{over}
 use Rattle.caas_spec.specs.Group.{Each, sumIn}
-use Rattle.caas_spec.specs.Split.{result}
-use Rattle.caas_spec.proofs.ExtLaws.{all-ext, result-ext, splits-ext}
+use Rattle.caas_spec.specs.Split.{deficit, result}
+use Rattle.caas_spec.proofs.ExtLaws.{all-ext, deficit-ext, result-ext, splits-ext}
+use Rattle.caas_spec.proofs.SplitLaws.{deficit-most}
 use Rattle.scratch_spec.specs.Columns.{MASS, LOW, HIGH, WEIGHT, col, num}
 use Rattle.scratch_spec.specs.Walks.{onChainOf, groupIn, Splitting, SplitDone}
 use Rattle.scratch_spec.proofs.ColumnLaws.{kept-start, kept-on}
 use Rattle.scratch_spec.proofs.NodeLaws.{num-kept}
 use Rattle.qlt_spec.specs.Tree.{childOf, massAt, Valid}
 use Rattle.qlt_spec.proofs.TreeLaws.{child-yes, child-other, child-up, child-low}
+use Rattle.qlt_spec.specs.Masses.{sharedOf}
 use Rattle.qlt_spec.proofs.MassLaws.{mass-root, mass-up}
-use Rattle.solve_spec.specs.Descent.{Linked, SameData, groupBy, massIn, Planned, Descended, DescendState}
+use Rattle.qlt_spec.proofs.SharedLaws.{shared-first, shared-none, shared-most}
+use Rattle.solve_spec.specs.Descent.{Linked, SameData, groupBy, massIn, sharedIn, Planned, Descended, DescendState}
 use Rattle.solve_spec.proofs.LinkLaws.{root-none, linked-has, linked-rising, linked-kept}
 
 -- a tree that breaks no rule for n cells breaks none for one cell; linking asks no more
@@ -68,10 +72,15 @@ module _ {up : ℕ → ℕ} {n m : ℕ} {s t : List ℤ} (plan : Planned up n m 
   unfolding massIn
   mass-same u i = massAt up m (λ v. result (group-same v i)) (num-same MASS (omega arith) i (m - 1)) u
 
+  -- and what is shared out
+  pub shared-same : (k : ℕ) → sharedIn up k m t ≡ sharedIn up k m s
+  shared-same k i = sharedOf k m (λ v. group-same v i) (λ u. mass-same u i)
+
   pub planned-same : Planned up n m t
   planned-same =
       record {
         valid = plan .valid;
+        few = plan .few;
         size = omega (arith, plan .size, same .long);
         top = same .cols MASS (m - 1) (omega arith) ∙ plan .top ∙ ap pos (ap over (sym (same .cols MASS (m - 1) (omega arith))));
         can = λ v h l. rw (mass-same v, group-same v) (plan .can v h l);
@@ -85,7 +94,7 @@ module _ {up : ℕ → ℕ} {n m : ℕ} {s : List ℤ} (plan : Planned up n m s)
   ok : Valid up n m
   ok = plan .valid
 
-  pub down-start : DescendState up n m s m s
+  pub down-start : DescendState up n m s m s 0
   down-start =
       record {
         low = ok .room;
@@ -94,9 +103,10 @@ module _ {up : ℕ → ℕ} {n m : ℕ} {s : List ℤ} (plan : Planned up n m s)
         top = plan .top;
         done = λ u l h. absurd (omega (arith, ok .inside u l));
         todo = λ u l h. refl;
+        shares = sym (shared-none m (λ w. groupBy up m w s) (massIn up m s) m (omega arith));
       }
 
-  module _ {v : ℕ} {new : List ℤ} (st : DescendState up n m s v new) (l : n < v) where
+  module _ {v : ℕ} {new : List ℤ} {shared : ℕ} (st : DescendState up n m s v new shared) (l : n < v) where
     abbrev pub node : ℕ
     node = v - 1
 
@@ -142,8 +152,37 @@ module _ {up : ℕ → ℕ} {n m : ℕ} {s : List ℤ} (plan : Planned up n m s)
           light = omega (arith, plan .light node (omega arith) node-in, all-ext (groupIn m node new) (groupBy up m node s) refl has-is (num WEIGHT new) (num WEIGHT s) (value-is WEIGHT (omega arith) (omega arith)));
         }
 
+    -- what is shared out so far is less than 2 ^ 41
+    small-at : (w : ℕ) → v ≤ w → w < m → natAbs (deficit (groupBy up m w s) (massIn up m s w)) ≤ 2 ^ 31
+    small-at w h k =
+        omega (arith, deficit-most (groupBy up m w s) (massIn up m s w) (plan .can w (omega arith) k), plan .small w (omega arith) k)
+
+    pub shared-small : shared ≤ 1024 * 2 ^ 31
+    shared-small =
+        omega (arith, st .shares, shared-most m (λ w. groupBy up m w s) (massIn up m s) v (2 ^ 31) small-at, mul-le-mul-right (2 ^ 31) (few-left))
+      where
+        few-left : m - v ≤ 1024
+        few-left = omega (arith, plan .few)
+
+    -- the node's d
+    deficit-is : deficit (groupIn m node new) (num MASS new node) ≡ deficit (groupBy up m node s) (massIn up m s node)
+    deficit-is =
+        deficit-ext (groupIn m node new) (groupBy up m node s) refl has-is target-is
+        (value-is LOW (omega arith) (omega arith)) (value-is HIGH (omega arith) (omega arith)) (value-is WEIGHT (omega arith) (omega arith))
+        (num MASS new node)
+        ∙ ap (deficit (groupBy up m node s)) mass-is
+
+    -- one node more
+    shared-is : {size : ℕ} → size ≡ natAbs (deficit (groupIn m node new) (num MASS new node)) → shared + size ≡ sharedIn up node m s
+    shared-is {size} z =
+        let j : suc node ≡ v = omega arith in
+        let f = shared-first m (λ w. groupBy up m w s) (massIn up m s) node node-in in
+        let g : sharedIn up (suc node) m s ≡ shared = ap (λ k. sharedIn up k m s) j ∙ sym (st .shares) in
+        let q : size ≡ natAbs (deficit (groupBy up m node s) (massIn up m s node)) = z ∙ ap natAbs deficit-is in
+        omega (arith, f, g, q)
+
     -- a turn
-    module _ {t : List ℤ} (p : SplitDone m node new t) where
+    module _ {t : List ℤ} {size : ℕ} (p : SplitDone m node new t) (ps : size ≡ natAbs (deficit (groupIn m node new) (num MASS new node))) where
       result-is : (u : ℕ) → u < m - 1 → up u ≡ node → onChainOf node new u ≡ true → result (groupIn m node new) (num MASS new node) u ≡ massIn up m s u
       result-is u i e o =
           result-ext (groupIn m node new) (groupBy up m node s) refl has-is target-is
@@ -159,7 +198,7 @@ module _ {up : ℕ → ℕ} {n m : ℕ} {s : List ℤ} (plan : Planned up n m s)
           p .done u (omega arith) o ∙ ap pos (result-is u i e o)
       done-at u i j (no e) = p .same u (omega arith) (has-is u (omega arith) ∙ child-other up u node e) ∙ st .done u i (omega arith)
 
-      pub down-turn : DescendState up n m s node t
+      pub down-turn : DescendState up n m s node t (shared + size)
       down-turn =
           record {
             low = omega arith;
@@ -168,9 +207,10 @@ module _ {up : ℕ → ℕ} {n m : ℕ} {s : List ℤ} (plan : Planned up n m s)
             top = p .same (m - 1) (omega (arith, node-in)) (has-is (m - 1) (omega (arith, node-in)) ∙ root-none ok node) ∙ st .top;
             done = λ u i j. done-at u i j (ℕ-discrete (up u) node);
             todo = λ u i j. p .same u (omega arith) (has-is u (omega arith) ∙ child-other up u node (omega arith)) ∙ st .todo u i (omega arith);
+            shares = shared-is ps;
           }
 
-  pub down-end : {v : ℕ} {new : List ℤ} → DescendState up n m s v new → v ≤ n → (u : ℕ) → u < m → col MASS new u ≡ pos (massIn up m s u)
+  pub down-end : {v : ℕ} {new : List ℤ} {shared : ℕ} → DescendState up n m s v new shared → v ≤ n → (u : ℕ) → u < m → col MASS new u ≡ pos (massIn up m s u)
   down-end {v} {new} st h u l = go (ℕ-discrete u (m - 1))
     where
       go : Dec (u ≡ m - 1) → col MASS new u ≡ pos (massIn up m s u)
@@ -178,10 +218,13 @@ module _ {up : ℕ → ℕ} {n m : ℕ} {s : List ℤ} (plan : Planned up n m s)
       go (no e) = st .done u (omega arith) (omega (arith, ok .inner u (omega arith)))
 
 -- the whole: linked, then split
-pub descended : {up : ℕ → ℕ} {n m v : ℕ} {s t new : List ℤ} → Planned up n m s → SameData m s t → Linked up m 0 t → DescendState up n m t v new → v ≤ n → Descended up m s new
-descended plan same links st h =
+pub descended :
+    {up : ℕ → ℕ} {n m v : ℕ} {s t new : List ℤ} {shared : ℕ} → Planned up n m s → SameData m s t → Linked up m 0 t → DescendState up n m t v new shared → v ≤ n
+    → Descended up n m s new shared
+descended {up} {n} {m} {v} {s} {t} plan same links st h =
     record {
       long = st .kept .long ∙ same .long;
       far = λ i l. st .kept .far i l ∙ same .far i l;
       masses = λ u l. down-end (planned-same plan same) links st h u l ∙ ap pos (mass-same plan same u);
+      shares = let e : v ≡ n = omega (arith, st .low) in st .shares ∙ ap (λ k. sharedIn up k m t) e ∙ shared-same plan same n;
     }

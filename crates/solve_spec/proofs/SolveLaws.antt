@@ -13,17 +13,18 @@ use Rattle.numbers.specs.Signed.{over}
 use Rattle.numbers.proofs.SumLaws.{sumTo-ext, sumTo-le}
 use Rattle.numbers.proofs.ListLaws.{length-listTo, getD-listTo, listTo-ext}
 use Rattle.caas_spec.specs.Group.{Group, Splits, sumIn}
-use Rattle.caas_spec.specs.Split.{result}
-use Rattle.caas_spec.proofs.ExtLaws.{all-ext, result-ext, splits-ext}
+use Rattle.caas_spec.specs.Split.{deficit, result}
+use Rattle.caas_spec.proofs.ExtLaws.{all-ext, deficit-ext, result-ext, splits-ext}
 use Rattle.scratch_spec.specs.Columns.{width, MASS, LOW, HIGH, WEIGHT, FIRST, col, num, Stored, Laid}
 use Rattle.qlt_spec.specs.Tree.{childOf, massAt, Valid}
 use Rattle.qlt_spec.specs.Operation.{cleared}
 use Rattle.qlt_spec.proofs.TreeLaws.{up-ind, child-low, child-parent, nodeSum-inner}
-use Rattle.qlt_spec.specs.Masses.{massBetween}
+use Rattle.qlt_spec.specs.Masses.{massBetween, sharedOf}
 use Rattle.qlt_spec.proofs.MassLaws.{InBounds, mass-root, mass-up}
+use Rattle.qlt_spec.proofs.SharedLaws.{shared-ext}
 use Rattle.qlt_spec.proofs.BetweenLaws.{between-in, between-can}
 use Rattle.solve_spec.specs.Gather.{Loaded}
-use Rattle.solve_spec.specs.Descent.{groupBy, massIn, Descending, Descended}
+use Rattle.solve_spec.specs.Descent.{groupBy, massIn, sharedIn, Descending, Descended}
 use Rattle.solve_spec.specs.Solve.{nodeOf, targetOf, nodeGroup, massOf, Solvable, Prepared, Solved}
 use Rattle.solve_spec.proofs.UpLaws.{node-pos, node-most}
 use Rattle.solve_spec.proofs.GatherLaws.{cleared-ext}
@@ -183,6 +184,7 @@ module _ {parents : List ℕ} {targets : List ℤ} {lows highs weights : List �
           plan =
               record {
                 valid = ok .valid;
+                few = ok .nodes-few;
                 size = omega (arith, ok .size, p .long);
                 top = p .root ∙ ap pos (sym root-is);
                 can = can-is;
@@ -194,7 +196,17 @@ module _ {parents : List ℕ} {targets : List ℤ} {lows highs weights : List �
 
     -- ---- the end
 
-    module _ {new : List ℤ} (d : Descended (at parents) m t new) where
+    -- what the splits share out goes by the tree's groups and masses
+    shared-is : sharedIn (at parents) n m t ≡ sharedOf n m group mass
+    shared-is = shared-ext n m held group (massIn (at parents) m t) mass (λ v h l. ap natAbs (same v l))
+      where
+        same : (v : ℕ) → v < m → deficit (held v) (massIn (at parents) m t v) ≡ deficit (group v) (mass v)
+        same v l =
+            deficit-ext (held v) (group v) refl (λ j k. refl) (target-is v) (λ j k e. p .low j k) (λ j k e. p .high j k) (λ j k e. p .weight j k)
+            (massIn (at parents) m t v)
+            ∙ ap (deficit (group v)) (mass-is v l)
+
+    module _ {new : List ℤ} {shared : ℕ} (d : Descended (at parents) n m t new shared) where
       pub long-end : length new ≡ length s
       long-end = d .long ∙ p .long
 
@@ -216,7 +228,7 @@ module _ {parents : List ℕ} {targets : List ℤ} {lows highs weights : List �
         pub solved :
             {s′ : List ℤ} {change : ℕ} → s′ ≡ cleared (width * m) new
             → change ≡ sumTo ℕ-adds (length masses) (λ c. natAbs (pos (at masses c) -ℤ atℤ targets c))
-            → Solved parents targets lows highs weights M s s′ masses change
+            → Solved parents targets lows highs weights M s s′ masses change shared
         solved f g =
             record {
               gives = masses-are;
@@ -224,5 +236,6 @@ module _ {parents : List ℕ} {targets : List ℤ} {lows highs weights : List �
                   g
                   ∙ ap₂ (λ i xs. sumTo ℕ-adds i (λ c. natAbs (pos (at xs c) -ℤ atℤ targets c))) masses-long masses-are
                   ∙ sumTo-ext ℕ-adds n _ _ (λ c l. ap (λ x. natAbs (pos x -ℤ atℤ targets c)) (getD-listTo n mass c 0 l));
+              shares = d .shares ∙ shared-is;
               leaves = f ∙ cleared-ext (width * m) new s long-end (λ i h. d .far i h ∙ p .far i h);
             }

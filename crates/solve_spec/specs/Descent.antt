@@ -11,6 +11,7 @@ use Rattle.caas_spec.specs.Group.{Group, Splits, sumIn}
 use Rattle.caas_spec.specs.Split.{result}
 use Rattle.scratch_spec.specs.Columns.{width, MASS, LOW, HIGH, WEIGHT, FIRST, NEXT, col, num, OnlyColumn}
 use Rattle.qlt_spec.specs.Tree.{childOf, massAt, Valid}
+use Rattle.qlt_spec.specs.Masses.{sharedOf}
 
 -- ---- building the chains
 
@@ -49,9 +50,14 @@ groupBy up m v s =
 unfoldable pub massIn : (up : ℕ → ℕ) (m : ℕ) → List ℤ → ℕ → ℕ
 massIn up m s = massAt up m (λ v. result (groupBy up m v s)) (num MASS s (m - 1))
 
+-- what the splits of the inner nodes from k on share out
+abbrev pub sharedIn : (up : ℕ → ℕ) (k m : ℕ) → List ℤ → ℕ
+sharedIn up k m s = sharedOf k m (λ v. groupBy up m v s) (massIn up m s)
+
 -- what splitting needs: a tree without a fault, and at each inner node a mass that can be split and sums that fit
 pub record Planned (up : ℕ → ℕ) (n m : ℕ) (s : List ℤ) : Type 0 where
   pub valid : Valid up n m
+  pub few : m ≤ 1024
   pub size : width * m ≤ length s
   pub top : col MASS s (m - 1) ≡ pos (num MASS s (m - 1))
   pub can : (v : ℕ) → n ≤ v → v < m → Splits (groupBy up m v s) (massIn up m s v)
@@ -63,16 +69,19 @@ pub record Descending (up : ℕ → ℕ) (n m : ℕ) (s : List ℤ) : Type 0 whe
   pub plan : Planned up n m s
   pub heads : (v : ℕ) → v < m → num FIRST s v ≡ m
 
-pub record Descended (up : ℕ → ℕ) (m : ℕ) (old new : List ℤ) : Type 0 where
+pub record Descended (up : ℕ → ℕ) (n m : ℕ) (old new : List ℤ) (shared : ℕ) : Type 0 where
   pub long : length new ≡ length old
   pub far : (i : ℕ) → width * m ≤ i → atℤ new i ≡ atℤ old i
   pub masses : (u : ℕ) → u < m → col MASS new u ≡ pos (massIn up m old u)
+  pub shares : shared ≡ sharedIn up n m old
 
--- before the turn at v − 1: the nodes from v on are split, so their children have their masses, and all other nodes but the root have their targets
-pub record DescendState (up : ℕ → ℕ) (n m : ℕ) (s : List ℤ) (v : ℕ) (new : List ℤ) : Type 0 where
+-- before the turn at v − 1: the nodes from v on are split, so their children have their masses, and all other nodes but the root have their targets;
+-- `shared` is what these splits share out
+pub record DescendState (up : ℕ → ℕ) (n m : ℕ) (s : List ℤ) (v : ℕ) (new : List ℤ) (shared : ℕ) : Type 0 where
   pub low : n ≤ v
   pub within : v ≤ m
   pub kept : OnlyColumn MASS m s new
   pub top : col MASS new (m - 1) ≡ pos (num MASS s (m - 1))
   pub done : (u : ℕ) → u < m - 1 → v ≤ up u → col MASS new u ≡ pos (massIn up m s u)
   pub todo : (u : ℕ) → u < m - 1 → up u < v → col MASS new u ≡ col MASS s u
+  pub shares : shared ≡ sharedIn up v m s

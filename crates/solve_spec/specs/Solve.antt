@@ -10,7 +10,7 @@ use Rattle.numbers.specs.Lists.{at, atℤ, listTo}
 use Rattle.caas_spec.specs.Group.{Group}
 use Rattle.scratch_spec.specs.Columns.{width, MASS, LOW, HIGH, WEIGHT, FIRST, col, num}
 use Rattle.qlt_spec.specs.Tree.{nodeSum, Valid}
-use Rattle.qlt_spec.specs.Masses.{childrenBetween, massBetween}
+use Rattle.qlt_spec.specs.Masses.{childrenBetween, massBetween, sharedOf}
 use Rattle.qlt_spec.specs.Operation.{cleared}
 
 module _ (parents : List ℕ) (targets : List ℤ) where
@@ -57,8 +57,9 @@ module _ (parents : List ℕ) (targets : List ℤ) (lows highs weights : List �
     pub weight : (u : ℕ) → u < length parents → num WEIGHT s u ≡ nodeOf parents targets weights u
     pub first : (u : ℕ) → u < length parents → num FIRST s u ≡ length parents
 
-  -- what solving leaves: the cells' masses, the scratch cleared; and the change that it gives
-  pub record Solved (M : ℕ) (old s : List ℤ) (masses : List ℕ) (change : ℕ) : Type 0 where
+  -- what solving leaves: the cells' masses, the scratch cleared; and the two sums that it gives, the change and what is shared out
+  pub record Solved (M : ℕ) (old s : List ℤ) (masses : List ℕ) (change shared : ℕ) : Type 0 where
     pub gives : masses ≡ listTo (length targets) (massOf M)
     pub moves : change ≡ sumTo ℕ-adds (length targets) (λ c. natAbs (pos (massOf M c) -ℤ atℤ targets c))
+    pub shares : shared ≡ sharedOf (length targets) (length parents) nodeGroup (massOf M)
     pub leaves : s ≡ cleared (width * length parents) old

@@ -13,9 +13,9 @@ use Rattle.numbers.specs.Lists.{atℤ, listTo}
 use Rattle.numbers.proofs.ListLaws.{listTo-ext}
 use Rattle.numbers.specs.Signed.{over}
 use Rattle.caas_spec.specs.Group.{Group, Splits}
-use Rattle.caas_spec.specs.Split.{result}
-use Rattle.caas_spec.specs.Operation.{SplitCall, items, SplitFits, itemGroup, splitMasses}
-use Rattle.caas_spec.proofs.ExtLaws.{all-ext, result-ext, splits-ext}
+use Rattle.caas_spec.specs.Split.{deficit, result}
+use Rattle.caas_spec.specs.Operation.{SplitCall, items, SplitFits, itemGroup, splitMasses, splitDeficit}
+use Rattle.caas_spec.proofs.ExtLaws.{all-ext, deficit-ext, result-ext, splits-ext}
 use Rattle.caas_spec.proofs.OperationLaws.{items-splits, highs-small, weights-small}
 use Rattle.scratch_spec.specs.Chain.{cursor, onChain}
 use Rattle.scratch_spec.specs.Columns.{width, MASS, LOW, HIGH, WEIGHT, FIRST, NEXT, col, num, Stored, Laid}
@@ -124,6 +124,14 @@ module _ (c : SplitCall) (fits : SplitFits c) (s : List ℤ) (load : ItemsLoaded
       ∙ ap pos
       (result-ext (groupIn k k s) G refl has-all (λ w i e. load .targets w i) (λ w i e. ap over (load .lows w i)) (λ w i e. ap over (load .highs w i)) (λ w i e. ap over (load .weights w i)) (num MASS s k) u l (has-all u l)
       ∙ ap (λ x. result G x u) (load .total))
+
+  -- and d is the items'
+  pub deficit-done : {d : ℤ} → d ≡ deficit (groupIn k k s) (num MASS s k) → d ≡ splitDeficit c
+  unfolding splitDeficit
+  deficit-done e =
+      e
+      ∙ deficit-ext (groupIn k k s) G refl has-all (λ w i e. load .targets w i) (λ w i e. ap over (load .lows w i)) (λ w i e. ap over (load .highs w i)) (λ w i e. ap over (load .weights w i)) (num MASS s k)
+      ∙ ap (deficit G) (load .total)
 
   pub masses-done : (new : List ℤ) → SplitDone k k s new → (n : ℕ) → n ≡ k → listTo n (λ u. pos (num MASS new u)) ≡ splitMasses c
   unfolding splitMasses

@@ -6,7 +6,8 @@ use caas_spec::SplitAnswer;
 mod verdict;
 mod work;
 
-// Splits `total` among the items, each with a target, a low, a high and a weight, and writes their masses. A refused call writes nothing.
+// Splits `total` among the items, each with a target, a low, a high and a weight, writes their masses and gives 01's d. A refused call
+// writes nothing.
 pub fn split(
     targets: &[i64],
     lows: &[i64],

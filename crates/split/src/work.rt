@@ -5,7 +5,7 @@ ghost use Prim.Native.Nat.{_+_, _*_, _≤_, _<_};
 ghost use lib.IntN.{pos};
 ghost use lib.ListN.{length};
 ghost use Rattle.numbers.specs.Lists.{atℤ, listTo};
-ghost use Rattle.caas_spec.specs.Operation.{splitCall, splitMasses, splitVerdict, SplitFits, SplitContract};
+ghost use Rattle.caas_spec.specs.Operation.{splitCall, splitMasses, splitDeficit, splitVerdict, SplitFits, SplitContract};
 ghost use Rattle.split.specs.Items.{ItemsLoaded};
 ghost use Rattle.scratch_spec.specs.Columns.{width, MASS, NEXT, num, Laid};
 use caas_spec::SplitAnswer;
@@ -77,7 +77,7 @@ fn load(targets: &[i64], lows: &[i64], highs: &[i64], weights: &[i64], total: i6
     put(s, MASS, targets.len(), above(total));
 }
 
-// The masses of a call that has passed its checks.
+// The masses of a call that has passed its checks; gives 01's d.
 fn split_items(
     targets: &[i64],
     lows: &[i64],
@@ -86,17 +86,21 @@ fn split_items(
     total: i64,
     masses: &mut [i64],
     s: &mut [i64],
-)
+) -> i64
     requires { ⌜ SplitFits (splitCall (now targets) (now lows) (now highs) (now weights) total (now masses)) ⌝ }
     requires { ⌜ width * length (now targets) + width ≤ length (now s) ⌝ }
-    ensures { λ _.
+    ensures { λ r.
         ⌜ now (masses .exit) ≡ splitMasses
+        (splitCall (now (targets .entry)) (now (lows .entry)) (now (highs .entry)) (now (weights .entry)) total (now (masses .entry))) ⌝ }
+    ensures { λ r.
+        ⌜ r ≡ splitDeficit
         (splitCall (now (targets .entry)) (now (lows .entry)) (now (highs .entry)) (now (weights .entry)) total (now (masses .entry))) ⌝ }
 {
     let n = targets.len();
     load(targets, lows, highs, weights, total, s);
-    split_group(s, n, n);
+    let deficit = split_group(s, n, n);
     copy_masses(s, masses);
+    deficit
 }
 
 // What a call leaves and answers, by its verdict: a refused one leaves the masses as they were.
@@ -120,6 +124,6 @@ pub fn split_by(
     if let Checked::Fail { number, place } = verdict {
         return SplitAnswer::Refused { number, place };
     }
-    split_items(targets, lows, highs, weights, total, masses, s);
-    SplitAnswer::Done
+    let deficit = split_items(targets, lows, highs, weights, total, masses, s);
+    SplitAnswer::Done { deficit }
 }

@@ -1,9 +1,9 @@
 // A test program: runs Split on cases from standard input, and prints a line for each. The file `stdin` has the cases; `stdout` was
-// written by an implementation of 01's own words in another language, and not by this program.
+// written by an implementation of the papers' own words in another language, and not by this program.
 // The input is whole numbers with spaces and line ends between them. A case is six numbers, the lengths of the lists of targets, lows,
 // highs, weights and masses (below 0 is taken as 0, above 600 as 600) and the total; then come the targets, lows, highs and weights.
-// Before the call each mass is 7. A line has `done`, or `refused` with number and place, and then the masses as the call left them: up
-// to 16 of them, or of more their sum and a check number. The cases end with the input, of which at most 65,536 bytes are read.
+// Before the call each mass is 7. A line has `done` with d, or `refused` with number and place, and then the masses as the call left them:
+// up to 16 of them, or of more their sum and a check number. The cases end with the input, of which at most 65,536 bytes are read.
 // Relies on `split`, which it tests, `caas_spec` for the answer, `test_support`, `numbers`, and the kit's `io` and `libc`.
 ghost use Prim.Native.Nat.{_+_, _≤_};
 ghost use lib.ListN.{length};

@@ -55,11 +55,12 @@ fn print_check(xs: &[i64]) {
     print_named(b" check", check_number(xs));
 }
 
-// The answer: done, or the refusal's number and place.
+// The answer: done with d, or the refusal's number and place.
 fn print_answer(answer: SplitAnswer) {
     match answer {
-        SplitAnswer::Done => {
+        SplitAnswer::Done { deficit } => {
             io::write_all(STDOUT_FILENO, b"done");
+            print_signed(deficit);
         }
         SplitAnswer::Refused { number, place } => print_refusal(number, place),
     }

@@ -1,9 +1,9 @@
 // One split of the nodes along a chain: the walk that clips, the walks that share out, and the whole.
 ghost use mathlib.Core.Path.{_≡_};
 ghost use Prim.Native.Nat.{_<_, _^_};
-ghost use Rattle.caas_spec.specs.Split.{clip, room, moved};
+ghost use Rattle.caas_spec.specs.Split.{clip, deficit, room, moved};
 ghost use Rattle.scratch_spec.specs.Columns.{MASS, LOW, HIGH, col, num, InRow};
-ghost use Rattle.scratch_spec.specs.Walks.{roomIn, either, Clipping, Clipped, Sharing, Shared, Splitting, SplitDone};
+ghost use Rattle.scratch_spec.specs.Walks.{groupIn, roomIn, either, Clipping, Clipped, Sharing, Shared, Splitting, SplitDone};
 use crate::columns::get_above;
 use crate::columns::put;
 use scratch_spec::FIRST;
@@ -129,20 +129,22 @@ fn share_walk(
     }
 }
 
-// Splits v's mass, which stands in its own row, among the nodes on its chain: their masses take their targets' place.
-pub fn split_group(s: &mut [i64], m: usize, v: usize)
+// Splits v's mass, which stands in its own row, among the nodes on its chain: their masses take their targets' place. Gives 01's d.
+pub fn split_group(s: &mut [i64], m: usize, v: usize) -> i64
     requires { ⌜ Splitting m v (now s) ⌝ }
-    ensures { λ _. ⌜ SplitDone m v (now (s .entry)) (now (s .exit)) ⌝ }
+    ensures { λ r. ⌜ SplitDone m v (now (s .entry)) (now (s .exit)) ⌝ }
+    ensures { λ r. ⌜ r ≡ deficit (groupIn m v (now (s .entry))) (num MASS (now (s .entry)) v) ⌝ }
 {
     let mass = get_above(s, MASS, v);
     let clipped = clip_walk(s, m, v);
     let sum = clipped.main;
     let all = clipped.side;
-    let d = numbers::arith::difference(mass, sum);
-    let down = numbers::arith::is_negative(d);
-    let size = numbers::arith::magnitude(d);
+    let deficit = numbers::arith::difference(mass, sum);
+    let down = numbers::arith::is_negative(deficit);
+    let size = numbers::arith::magnitude(deficit);
     let first = share_walk(s, m, v, false, down, size, all);
     let given = first.main;
     let left = first.side;
     share_walk(s, m, v, true, down, size - given, left);
+    deficit
 }

@@ -1,8 +1,8 @@
 //! The test program of Read a field file, Write an answer, Payload, Write a field and Read an answer. A case starts with its kind: 1 is
 //! reading the field file of a number into lists of seven lengths, whose entries are 7 before; 2 is writing the answer of cells, outcome,
-//! total and change, with masses by a rule, into a buffer whose bytes are 9 before; 3 is the payload of a block of the field file of a
-//! number; 4 is writing the field of cells, nodes and total, with lists of seven lengths by a rule, into a buffer whose bytes are 9 before;
-//! 5 is reading the answer file of a number into a list, whose entries are 7 before.
+//! total, change and the sum shared out, with masses by a rule, into a buffer whose bytes are 9 before; 3 is the payload of a block of the
+//! field file of a number; 4 is writing the field of cells, nodes and total, with lists of seven lengths by a rule, into a buffer whose bytes
+//! are 9 before; 5 is reading the answer file of a number into a list, whose entries are 7 before.
 
 use crate::numbers::{each_case, Numbers};
 use crate::output;
@@ -96,7 +96,7 @@ fn written(result: Result<usize, Refusal>, buffer: Vec<u8>) -> String {
 
 fn write(numbers: &mut Numbers) -> String {
     let cells = numbers.unsigned() as usize;
-    let repair = Repair { outcome: numbers.word(), total: numbers.word(), change: numbers.unsigned() };
+    let repair = Repair { outcome: numbers.word(), total: numbers.word(), change: numbers.unsigned(), shared: numbers.unsigned() };
     let (count, size) = (length(numbers, 600), length(numbers, 4096));
     let masses = Rule::read(numbers).list(0, count);
     let mut buffer = vec![9; size];
@@ -120,7 +120,7 @@ fn read_masses(program: &Program, numbers: &mut Numbers) -> String {
     let answer = match read_answer(&file, &mut masses) {
         Ok(header) => {
             let repair = header.repair;
-            format!("read {} {} {} {}", header.cells, repair.outcome, repair.total, repair.change)
+            format!("read {} {} {} {} {}", header.cells, repair.outcome, repair.total, repair.change, repair.shared)
         }
         Err(refusal) => output::refused(refusal),
     };

@@ -28,6 +28,8 @@ struct Run {
     total: u32,
     accepted: u32,
     refused: u32,
+    /// What the accepted steps have shared out.
+    shared: u64,
 }
 
 /// Draws the cells of a field around the kept masses.
@@ -70,6 +72,7 @@ fn one_step(workspace: &mut Workspace, draws: &mut Draws, run: &mut Run) {
         Ok(repair) => {
             run.accepted += 1;
             run.total = repair.total;
+            run.shared += repair.shared;
         }
         Err(_) => run.refused += 1,
     }
@@ -77,7 +80,7 @@ fn one_step(workspace: &mut Workspace, draws: &mut Draws, run: &mut Run) {
 
 fn line(steps: u32, run: &Run) -> String {
     let counts = format!("calls {steps} accepted {} refused {} total {}", run.accepted, run.refused, run.total);
-    format!("{counts}{}\n", output::check(sum(&run.kept), &run.kept.map(i64::from)))
+    format!("{counts}{} shared {}\n", output::check(sum(&run.kept), &run.kept.map(i64::from)), run.shared)
 }
 
 pub fn expected(_: &Program) -> String {
@@ -85,7 +88,7 @@ pub fn expected(_: &Program) -> String {
     let Ok(total) = open(&kept) else {
         return String::new();
     };
-    let mut run = Run { kept, total, accepted: 0, refused: 0 };
+    let mut run = Run { kept, total, accepted: 0, refused: 0, shared: 0 };
     let (mut workspace, mut draws) = (Workspace::default(), Draws { state: 1 });
     let mut text = format!("open {total}\n");
     for steps in 1..=12_000 {

@@ -48,7 +48,7 @@ fn case(workspace: &mut Workspace, numbers: &mut Numbers) -> String {
     };
     let (mut masses, mut scratch) = (vec![7; lengths[7]], vec![5; lengths[8]]);
     let answer = match reconstruct(workspace, &field.lists(), total, &mut masses, &mut scratch) {
-        Ok(repair) => format!("done {} {} {}", repair.outcome, repair.total, repair.change),
+        Ok(repair) => format!("done {} {} {} {}", repair.outcome, repair.total, repair.change, repair.shared),
         Err(refusal) => output::refused(refusal),
     };
     let wide: Vec<i64> = masses.iter().map(|&mass| i64::from(mass)).collect();

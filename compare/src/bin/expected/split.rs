@@ -1,5 +1,5 @@
 //! The test program of Split. A case is the lengths of targets, lows, highs, weights and masses, at most 600 each, and the total; then the
-//! four lists. Before the call each mass is 7.
+//! four lists. Before the call each mass is 7. An accepted call tells d.
 
 use crate::numbers::{each_case, Numbers};
 use crate::output;
@@ -23,7 +23,7 @@ fn case(numbers: &mut Numbers) -> String {
     let (targets, lows, highs, weights) = (list(lengths[0]), list(lengths[1]), list(lengths[2]), list(lengths[3]));
     let mut masses = vec![7; lengths[4]];
     let answer = match split(&targets, &lows, &highs, &weights, total, &mut masses) {
-        Ok(()) => "done".to_string(),
+        Ok(deficit) => format!("done {deficit}"),
         Err(refusal) => output::refused(refusal),
     };
     format!("{answer}{}\n", output::masses(&masses, sum_above(&masses)))

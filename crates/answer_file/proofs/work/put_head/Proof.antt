@@ -1,10 +1,6 @@
--- `answer_file::work::put_head` meets its contract: the words of the head fill the first part of the buffer.
-use mathlib.Core.Path.{_∙_, ap, ap₂}
-use mathlib.Core.List.{[], _∷_}
+-- `answer_file::work::put_head` meets its contract: the eight words of the head fill the first part of the buffer.
 use native.Mathlib.Omega.{arith}
-use borrow.Rule.Slice.PartMut.{putMid}
 use Rattle.numbers.proofs.PartLaws.{length-part, put-back}
-use Rattle.blocks.specs.Blocks.{blockBytes}
 use Rattle.blocks.proofs.BlockLaws.{length-blockBytes}
 use Rattle.files_spec.specs.AnswerFile.{answerHead}
 use borrow.Author.Needs.{needs}
@@ -17,8 +13,14 @@ low-word-requires c κs = search needs
 high-word-requires : tie.Need-high-word-requires
 high-word-requires c κs = search needs
 
-cast-t7 : tie.Need-cast-t7
-cast-t7 c = search needs
+low-word-requires-2 : tie.Need-low-word-requires-2
+low-word-requires-2 c κs = search needs
+
+high-word-requires-2 : tie.Need-high-word-requires-2
+high-word-requires-2 c κs = search needs
+
+cast-t9 : tie.Need-cast-t9
+cast-t9 c = search needs
 
 sub-fill-block : tie.Need-sub-fill-block
 sub-fill-block c = search needs
@@ -33,18 +35,20 @@ slice-aggregate-fill-block : tie.Need-slice-aggregate-fill-block
 slice-aggregate-fill-block c = search needs
 
 fill-block-requires : tie.Need-fill-block-requires
-fill-block-requires c κs = length-part 512 0 (c .before .before .before .before .before .args .buffer .now) (omega (arith, c .before .before .before .before .before .pre))
+fill-block-requires c κs = length-part 512 0 (c .before .before .before .before .before .before .before .args .buffer .now) (omega (arith, c .before .before .before .before .before .before .before .pre))
 
 same-length : tie.Need-same-length
 same-length c = search needs
 
 returns : tie.Need-returns
 returns c =
-    let a = c .before .before .before .before .before .before .before .before .args in
-    ap (λ vs. putMid 0 512 (a .buffer .now) vs)
-    (c .before .before .fill-block .ensures
-    ∙ ap₂ (λ x y. blockBytes 1 (512 ∷ a .n ∷ a .repair .outcome ∷ a .repair .total ∷ x ∷ y ∷ [])) (c .before .before .before .before .before .before .low-word .ensures) (c .before .before .before .before .before .high-word .ensures))
-    ∙ put-back 0 512 (a .buffer .now) _ (omega (arith, length-blockBytes 1 (answerHead (a .n) (a .repair))))
+    let a = c .before .before .before .before .before .before .before .before .before .before .args in
+    let l = c .before .before .before .before .before .before .before .before .low-word .ensures in
+    let h = c .before .before .before .before .before .before .before .high-word .ensures in
+    let l2 = c .before .before .before .before .before .before .low-word2 .ensures in
+    let h2 = c .before .before .before .before .before .high-word2 .ensures in
+    rw (c .before .before .fill-block .ensures, l, h, l2, h2)
+    (put-back 0 512 (a .buffer .now) _ (omega (arith, length-blockBytes 1 (answerHead (a .n) (a .repair)))))
 
 pub put-head-spec : {M : Type 1} → statement M
 put-head-spec =
@@ -52,7 +56,9 @@ put-head-spec =
     (tie.spec
     low-word-requires
     high-word-requires
-    cast-t7
+    low-word-requires-2
+    high-word-requires-2
+    cast-t9
     sub-fill-block
     part-fill-block-start
     part-fill-block-end

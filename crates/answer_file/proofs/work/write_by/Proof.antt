@@ -19,7 +19,13 @@ call c = writeCall (c .args .cells) (c .args .repair) (c .args .masses .now) (c 
 typed : (c : tie.After-shared-slice-known) → AnswerTyped (c .before .args .repair) (c .before .args .masses .now)
 typed c =
     let g = c .before .good .1 .1 .0 .1 .1 in
-    record { outcome-word = g .0 .1; total-word = g .1 .0 .1; change-words = g .1 .1 .0 .1; mass-words = λ i. c .shared-slice-known .given i .fits }
+    record {
+      outcome-word = g .0 .1;
+      total-word = g .1 .0 .1;
+      change-words = g .1 .1 .0 .1;
+      shared-words = g .1 .1 .1 .0 .1;
+      mass-words = λ i. c .shared-slice-known .given i .fits;
+    }
 
 passed : (c : tie.After-enum-told) → writeVerdict (call (c .before .before .before .before)) ≡ Pass
 passed c = sym (c .before .before .before .before .pre) ∙ c .enum-told .given .1

@@ -1,4 +1,4 @@
--- `legzhuro_c::returns::put_answer` meets its contract: four stores in a row are one written part.
+-- `legzhuro_c::returns::put_answer` meets its contract: five stores in a row are one written part.
 use mathlib.Core.Path.{refl}
 use native.Mathlib.Omega.{arith}
 use lib.ListN.{length-set}
@@ -26,6 +26,9 @@ slice-write-answer-3 c = simp length-set (omega arith)
 slice-write-answer-4 : tie.Need-slice-write-answer-4
 slice-write-answer-4 c = simp length-set (omega arith)
 
+slice-write-answer-5 : tie.Need-slice-write-answer-5
+slice-write-answer-5 c = simp length-set (omega arith)
+
 same-length : tie.Need-same-length
 same-length c = search needs
 
@@ -44,5 +47,6 @@ put-answer-spec =
     cast-answer-2
     slice-write-answer-3
     slice-write-answer-4
+    slice-write-answer-5
     same-length
     returns)

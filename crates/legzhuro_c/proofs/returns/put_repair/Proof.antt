@@ -1,4 +1,4 @@
--- `legzhuro_c::returns::put_repair` meets its contract: three stores in a row are one written part.
+-- `legzhuro_c::returns::put_repair` meets its contract: four stores in a row are one written part.
 use mathlib.Core.Path.{refl}
 use native.Mathlib.Omega.{arith}
 use lib.ListN.{length-set}
@@ -23,6 +23,9 @@ slice-write-answer-2 c = simp length-set (omega arith)
 slice-write-answer-3 : tie.Need-slice-write-answer-3
 slice-write-answer-3 c = simp length-set (omega arith)
 
+slice-write-answer-4 : tie.Need-slice-write-answer-4
+slice-write-answer-4 c = simp length-set (omega arith)
+
 same-length : tie.Need-same-length
 same-length c = search needs
 
@@ -38,5 +41,6 @@ put-repair-spec =
     cast-answer-2
     slice-write-answer-2
     slice-write-answer-3
+    slice-write-answer-4
     same-length
     returns)

@@ -1,23 +1,22 @@
 -- `solve::descend::descend` meets its contract: linking leaves what the masses go by (`planned-same`), and `DescendState` holds from turn to turn
--- (`down-start`, `down-turn`); at n all inner nodes are split (`descended`).
-use mathlib.Core.Path.{_∙_}
+-- (`down-start`, `down-turn`); at n all inner nodes are split (`descended`). What is
+-- shared out stays below 2 ^ 42 (`shared-small`, `deficit-small`).
+use mathlib.Core.Path.{_∙_, ap}
 use native.Mathlib.Omega.{arith}
 use borrow.Author.Needs.{needs}
+use lib.IntN.{natAbs}
 use Rattle.numbers.specs.Lists.{at}
+use Rattle.scratch_spec.proofs.NodeLaws.{deficit-small, deficit-read}
 use Rattle.solve_spec.specs.Descent.{Planned, DescendState}
-use Rattle.solve_spec.proofs.DescentLaws.{valid-one, planned-same, down-start, down-splitting, down-turn, descended}
+use Rattle.solve_spec.proofs.DescentLaws.{valid-one, planned-same, down-start, down-splitting, shared-small, down-turn, descended}
 use Rattle.solve.proofs.descend.descend.Statement.{statement}
 use Rattle.solve.proofs.descend.descend.Tie as tie
 
 abbrev Inv-loop : tie.InvT-loop
-Inv-loop parents n m s₀ v₀ s v = DescendState (at parents) n m s₀ v s
+Inv-loop parents n m s₀ v₀ shared₀ s v shared = DescendState (at parents) n m s₀ v s shared
 
 abbrev μ-loop : tie.MeasureT-loop
-μ-loop parents n m s₀ v₀ s v = v
-
--- where the nodes are linked
-abbrev linked : (c : tie.In-loop Inv-loop μ-loop) → tie.After-link Inv-loop μ-loop
-linked c = c .before .before .before
+μ-loop parents n m s₀ v₀ shared₀ s v shared = v
 
 -- what linking leaves
 plan : (c : tie.After-link Inv-loop μ-loop) → Planned (at (c .before .before .before .args .parents .now)) (c .before .before .before .args .n) (c .before .before .before .args .m) (c .link .last .1 .1 .0)
@@ -35,25 +34,39 @@ sub-v : tie.Need-sub-v Inv-loop μ-loop
 sub-v c = search needs
 
 split-group-requires : tie.Need-split-group-requires Inv-loop μ-loop
-split-group-requires c κs =
-    let t = c .before in
-    down-splitting (plan (linked t)) (linked t .link .ensures .0) (t .before .loop .inv) (omega (arith, t .loop-test .taken))
+split-group-requires c κs = down-splitting (plan (c .before .before .before .before)) (c .before .before .before .before .link .ensures .0) (c .before .before .loop .inv) (omega (arith, c .before .loop-test .taken))
+
+magnitude-requires : tie.Need-magnitude-requires Inv-loop μ-loop
+magnitude-requires c κs = search needs
+
+add-shared : tie.Need-add-shared Inv-loop μ-loop
+add-shared c =
+    let ready = down-splitting (plan (c .before .before .before .before .before .before .before)) (c .before .before .before .before .before .before .before .link .ensures .0) (c .before .before .before .before .before .loop .inv) (omega (arith, c .before .before .before .before .loop-test .taken)) in
+    record {
+      fits =
+          omega (
+            arith,
+            shared-small (plan (c .before .before .before .before .before .before .before)) (c .before .before .before .before .before .before .before .link .ensures .0) (c .before .before .before .before .before .loop .inv) (omega (arith, c .before .before .before .before .loop-test .taken)),
+            c .magnitude .ensures ∙ ap natAbs (deficit-read ready (c .before .before .split-group .ensures .1)),
+            deficit-small ready,
+          );
+    }
 
 loop-less : tie.Need-loop-less Inv-loop μ-loop
 loop-less c = search needs
 
 loop-again : tie.Need-loop-again Inv-loop μ-loop
 loop-again c =
-    let t = c .before .before .before in
-    down-turn (plan (linked t)) (linked t .link .ensures .0) (t .before .loop .inv) (omega (arith, t .loop-test .taken)) (c .before .split-group .ensures)
+    let ready = down-splitting (plan (c .before .before .before .before .before .before .before)) (c .before .before .before .before .before .before .before .link .ensures .0) (c .before .before .before .before .before .loop .inv) (omega (arith, c .before .before .before .before .loop-test .taken)) in
+    down-turn (plan (c .before .before .before .before .before .before .before)) (c .before .before .before .before .before .before .before .link .ensures .0) (c .before .before .before .before .before .loop .inv) (omega (arith, c .before .before .before .before .loop-test .taken)) (c .before .before .split-group .ensures .0)
+    (c .magnitude .ensures ∙ ap natAbs (deficit-read ready (c .before .before .split-group .ensures .1)))
 
 same-length : tie.Need-same-length Inv-loop μ-loop
 same-length c = c .before .loop .inv .kept .long ∙ c .before .before .before .link .ensures .1 .long
 
 returns : tie.Need-returns Inv-loop μ-loop
 returns c =
-    let a = c .before .before .before in
-    descended (c .before .before .before .before .before .before .pre .1 .plan) (a .link .ensures .1) (a .link .ensures .0) (c .before .loop .inv) (omega (arith, c .loop-test .left))
+    descended (c .before .before .before .before .before .before .pre .1 .plan) (c .before .before .before .link .ensures .1) (c .before .before .before .link .ensures .0) (c .before .loop .inv) (omega (arith, c .loop-test .left))
 
 pub descend-spec : {M : Type 1} → statement M
 descend-spec =
@@ -65,6 +78,8 @@ descend-spec =
     loop-holds
     sub-v
     split-group-requires
+    magnitude-requires
+    add-shared
     loop-less
     loop-again
     same-length

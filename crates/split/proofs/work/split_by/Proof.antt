@@ -5,8 +5,8 @@ use lib.IntN.{ℤ}
 use mir.Syntax.{w64}
 use mir.Val.{toZ, ofZ}
 use mir.ValLaws.{toZ-ofZ}
-use Rattle.caas_spec.specs.Operation.{SplitCall, splitCall, SplitFits, splitMasses}
-use Rattle.caas_spec.proofs.OperationLaws.{split-accepts, contract-done, contract-refused}
+use Rattle.caas_spec.specs.Operation.{SplitCall, splitCall, SplitFits, splitMasses, splitDeficit}
+use Rattle.caas_spec.proofs.OperationLaws.{split-accepts, split-deficit-read, contract-done, contract-refused}
 use borrow.Author.Needs.{needs}
 use Rattle.split.proofs.work.split_by.Statement.{statement}
 use Rattle.split.proofs.work.split_by.Tie as tie
@@ -46,7 +46,8 @@ returns-2 : tie.Need-returns-2
 returns-2 c =
     let s = c .before .before .before .before .before .before .before in
     contract-done (callAt s (s .args .total)) (sym (s .pre .0) ∙ c .before .before .before .before .before .enum-told .given .1)
-    (c .before .before .split-items .ensures ∙ ap (λ (z : ℤ). splitMasses (callAt s z)) (total-is s))
+    (split-deficit-read (callAt s (s .args .total)) (fits (c .before .before .before .before .before)) (c .before .before .split-items .ensures .1 ∙ ap (λ (z : ℤ). splitDeficit (callAt s z)) (total-is s)))
+    (c .before .before .split-items .ensures .0 ∙ ap (λ (z : ℤ). splitMasses (callAt s z)) (total-is s))
 
 pub split-by-spec : {M : Type 1} → statement M
 split-by-spec =

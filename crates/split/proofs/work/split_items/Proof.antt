@@ -1,12 +1,13 @@
--- `split::work::split_items` meets its contract: the rows hold the items, so the masses that the walks leave are the results.
+-- `split::work::split_items` meets its contract: the rows hold the items, so the masses that the walks leave are the results, and d is theirs.
 use mathlib.Core.Path.{_∙_, subst}
 use lib.IntN.{ℤ}
 use lib.ListN.{length}
 use mir.Syntax.{w64}
 use mir.ValLaws.{toZ-ofZ}
 use Rattle.caas_spec.specs.Operation.{SplitCall, splitCall}
+use Rattle.scratch_spec.proofs.NodeLaws.{deficit-read}
 use Rattle.split.specs.Items.{ItemsLoaded}
-use Rattle.split.proofs.ItemLaws.{items-splitting, masses-done}
+use Rattle.split.proofs.ItemLaws.{items-splitting, masses-done, deficit-done}
 use borrow.Author.Needs.{needs}
 use Rattle.split.proofs.work.split_items.Statement.{statement}
 use Rattle.split.proofs.work.split_items.Tie as tie
@@ -35,8 +36,12 @@ same-length-2 : tie.Need-same-length-2
 same-length-2 c = search needs
 
 returns : tie.Need-returns
-returns c = let s = c .before .before .before .before .before .before .before .before .before .before in
-    c .before .copy-masses .ensures ∙ masses-done (call s) (s .pre .0) _ (loaded (c .before .before .before .before .before .before .before .before)) _ (c .before .before .before .before .before .split-group .ensures) (length (s .args .masses .now)) (s .pre .0 .lengths .masses)
+returns c =
+    let s = c .before .before .before .before .before .before .before .before .before .before in
+    let l = loaded (c .before .before .before .before .before .before .before .before) in (
+      c .before .copy-masses .ensures ∙ masses-done (call s) (s .pre .0) _ l _ (c .before .before .before .before .before .split-group .ensures .0) (length (s .args .masses .now)) (s .pre .0 .lengths .masses),
+      deficit-done (call s) (s .pre .0) _ l (deficit-read (items-splitting (call s) (s .pre .0) _ l) (c .before .before .before .before .before .split-group .ensures .1)),
+    )
 
 pub split-items-spec : {M : Type 1} → statement M
 split-items-spec =

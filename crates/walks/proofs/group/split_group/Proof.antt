@@ -1,34 +1,29 @@
 -- `walks::group::split_group` meets its contract: what each of the three walks requires follows from what the ones before it ensure
--- (`clipping`, `sharing-1`, `sharing-2`), and what they leave together is the split (`split-done`). There is room for all of d, so it fits.
+-- (`clipping`, `sharing-1`, `sharing-2`), and what they leave together is the split (`split-done`); d
+-- is given (`d-is`). There is room for all of d, so it fits.
 use mathlib.Core.Path.{_≡_, _∙_, ap}
 use native.Mathlib.Omega.{arith}
 use borrow.Author.Needs.{needs}
 use lib.IntN.{ℤ, natAbs}
 use mir.Syntax.{w64}
-use mir.Val.{SFits, toZ, ofZ}
-use mir.ValLaws.{toZ-ofZ}
-use Rattle.numbers.proofs.SignedLaws.{about}
+use mir.Val.{toZ, ofZ}
 use Rattle.caas_spec.specs.Split.{deficit, surplus}
 use Rattle.scratch_spec.specs.Columns.{MASS, num}
 use Rattle.scratch_spec.specs.Walks.{groupIn}
 use Rattle.scratch_spec.proofs.WalkLaws.{own-row}
-use Rattle.scratch_spec.proofs.NodeLaws.{clipping, deficit-small, deficit-is, sharing-1, given-most, sharing-2, split-done}
+use Rattle.scratch_spec.proofs.NodeLaws.{clipping, deficit-read, deficit-is, sharing-1, given-most, sharing-2, split-done}
 use Rattle.walks.proofs.group.split_group.Statement.{statement}
 use Rattle.walks.proofs.group.split_group.Tie as tie
 
--- d by its definition, which fits 64 bits
+-- d by its definition
 abbrev d : tie.Start → ℤ
 d c = deficit (groupIn (c .args .m) (c .args .v) (c .args .s .now)) (num MASS (c .args .s .now) (c .args .v))
-
-d-fits : (c : tie.Start) → SFits w64 (d c)
-d-fits c = record { sfits = omega (arith, about (d c), deficit-small (c .pre)) }
 
 -- what the code computes is d, its sign and its size
 d-is : (c : tie.After-difference) → toZ w64 (ofZ w64 (c .difference .result)) ≡ d (c .before .before .before .before .before .before)
 d-is c =
     let b = c .before .before .before .before .before .before in
-    ap (λ z. toZ w64 (ofZ w64 z)) (deficit-is (b .pre) (c .before .before .clip-walk .ensures) (c .before .before .before .before .get-above .ensures .0) (c .difference .ensures))
-    ∙ toZ-ofZ w64 (d b) (d-fits b)
+    deficit-read (b .pre) (deficit-is (b .pre) (c .before .before .clip-walk .ensures) (c .before .before .before .before .get-above .ensures .0) (c .difference .ensures))
 
 abbrev start : (c : tie.After-magnitude) → tie.Start
 start c = c .before .before .before .before .before .before .before .before
@@ -74,10 +69,12 @@ same-length c = search needs
 
 returns : tie.Need-returns
 returns c =
-    let b = c .before .before .before .before .before .before in
-    split-done (start b .pre) (b .before .before .before .before .clip-walk .ensures) (down-is b) (size-is b)
-    (c .before .before .before .before .share-walk .ensures)
-    (c .before .share-walk2 .ensures)
+    let b = c .before .before .before .before .before .before in (
+      split-done (start b .pre) (b .before .before .before .before .clip-walk .ensures) (down-is b) (size-is b)
+          (c .before .before .before .before .share-walk .ensures)
+          (c .before .share-walk2 .ensures),
+      d-is (b .before .before),
+    )
 
 pub split-group-spec : {M : Type 1} → statement M
 split-group-spec =
