@@ -1,7 +1,8 @@
 #!/bin/sh
 # Builds the comparison program against the proved library and runs it: run.sh [SCALE], a percentage of the usual number of inputs. With a
 # small SCALE not every refusal may occur, and then it fails.
-# `run.sh benchmark` measures the library against the second implementation instead. Library and program are taken from ../target.
+# `run.sh benchmark` measures the library against the second implementation instead, `run.sh drift` how far mass drifts towards high cell
+# numbers under the library's rounding. Library and program are taken from ../target.
 set -eu
 cd "$(dirname "$0")"
 target=$(cd ../target && pwd)
@@ -16,6 +17,10 @@ export RUSTFLAGS CARGO_TARGET_DIR PATH
 if [ "${1:-}" = benchmark ]; then
     cargo build --profile benchmark --features library --bin benchmark --offline --quiet
     exec "$CARGO_TARGET_DIR/benchmark/benchmark"
+fi
+if [ "${1:-}" = drift ]; then
+    cargo build --release --features library --bin drift --offline --quiet
+    exec "$CARGO_TARGET_DIR/release/drift"
 fi
 cargo build --release --features library --bin compare --offline --quiet
 exec "$CARGO_TARGET_DIR/release/compare" "$program" "$@"

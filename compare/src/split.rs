@@ -53,6 +53,11 @@ fn capacity(item: &Item, sign: i64) -> i64 {
     }
 }
 
+/// The rounded quotient of both passes.
+fn rounded(a: i64, b: i64) -> i64 {
+    a / b
+}
+
 /// Step 3: shares `size` out by weights and returns what is left of it.
 fn by_weights(items: &mut [Item], size: i64, sign: i64) -> i64 {
     let weights: i64 = items.iter().map(|item| item.weight).sum();
@@ -62,9 +67,9 @@ fn by_weights(items: &mut [Item], size: i64, sign: i64) -> i64 {
     let (mut left, mut upto, mut given) = (size, 0, 0);
     for item in items.iter_mut() {
         upto += item.weight;
-        let floor = size * upto / weights;
-        let share = capacity(item, sign).min(floor - given);
-        given = floor;
+        let now = rounded(size * upto, weights);
+        let share = capacity(item, sign).min(now - given);
+        given = now;
         item.mass += sign * share;
         left -= share;
     }
@@ -80,8 +85,8 @@ fn by_capacities(items: &mut [Item], size: i64, sign: i64) {
     let (mut upto, mut given) = (0, 0);
     for item in items.iter_mut() {
         upto += capacity(item, sign);
-        let floor = size * upto / capacities;
-        item.mass += sign * (floor - given);
-        given = floor;
+        let now = rounded(size * upto, capacities);
+        item.mass += sign * (now - given);
+        given = now;
     }
 }

@@ -34,7 +34,7 @@ room false low high x = high - x
 unfoldable pub capacity : Group → ℤ → ℕ → ℕ
 capacity G d u = room (surplus d) (G .low u) (G .high u) (clipped G u)
 
--- the part of D that falls to an item by sizes: floor(D × sizes up to and including it ÷ all) − floor(D × sizes before it ÷ all)
+-- the part of D that falls to an item by sizes: D × sizes up to and including it ÷ all, minus D × sizes before it ÷ all, each quotient rounded
 unfoldable pub portion : Group → (ℕ → ℕ) → ℕ → ℕ → ℕ
 portion G size D u =
     quota (D * sumBefore ℕ-adds G (suc u) size) (sumIn ℕ-adds G size)

@@ -1,9 +1,9 @@
 -- The rounded quotient: all that anything else may use of it. Assumes nothing.
--- The first five laws read the definition; the others follow from those alone, so they hold of every rounding that has the five.
+-- The first four laws read the definition; the others follow from those alone, so they hold of every rounding that has the four.
 use mathlib.Core.Path.{_≡_, sym, _∙_, ap}
 use Prim.Native.Nat.{ℕ, zero, suc, _+_, _-_, _*_, _/_, _%_, _≤_, _<_}
 use native.Mathlib.Omega.{arith}
-use native.Mathlib.Nat.{le-trans, le-of-eq, div-zero, zero-div, div-mul-le-self, le-div-iff-mul-le, add-mul-div-right, mul-div-cancel, mul-le-mul-left, mul-le-mul-right, mul-add, add-mul, mul-comm, div-add-mod', mod-lt, lt-div-mul-add}
+use native.Mathlib.Nat.{le-trans, le-of-eq, zero-add, div-zero, zero-div, div-mul-le-self, le-div-iff-mul-le, add-mul-div-right, mul-le-mul-left, mul-le-mul-right, mul-add, add-mul, mul-comm, div-add-mod', mod-lt, lt-div-mul-add}
 use native.Mathlib.Decide.{decLt}
 use Rattle.numbers.specs.Quota.{quota}
 
@@ -20,16 +20,15 @@ pub quota-none : (a : ℕ) → quota a 0 ≡ 0
 unfolding quota
 quota-none a = div-zero a
 
-pub quota-whole : (a b : ℕ) → 0 < b → quota (a * b) b ≡ a
-unfolding quota
-quota-whole a b h = mul-div-cancel a h
-
 -- a whole summand comes out
 pub quota-plus : (a c b : ℕ) → 0 < b → quota (a + c * b) b ≡ quota a b + c
 unfolding quota
 quota-plus a c b h = add-mul-div-right a c h
 
 -- ---- what follows
+
+pub quota-whole : (a b : ℕ) → 0 < b → quota (a * b) b ≡ a
+quota-whole a b h = ap (λ x. quota x b) (sym (zero-add (a * b))) ∙ quota-plus 0 a b h ∙ rw (quota-zero b) (zero-add a)
 
 -- of D shared out by sizes that add up to c, a size l gets at most l if D is at most c
 pub quota-part : (D c P l : ℕ) → D ≤ c → quota (D * (P + l)) c ≤ quota (D * P) c + l
