@@ -85,10 +85,12 @@ uint64_t legzhuro_read_answer(const uint8_t *file, size_t file_len, uint32_t *ma
                               size_t answer_len);
 
 /* Splits `total` among items: item i would like targets[i], must get a mass between lows[i] and highs[i], and shares what is missing or too
- * much by weights[i] first, then by the room that is left. masses[i] is what it gets; the masses add up to the total. deficit[0] is what is
- * missing or, below 0, too much: the total minus the sum of the targets, each clipped into its low and high; later entries of `deficit` are
- * left alone. The number of items is that of the targets, 1 to 512; every other list but `deficit` must have the same length. Lows and
- * weights must not be below 0, and highs and weights each add up to at most 2147483647.
+ * much by weights[i] first, then by the room that is left. masses[i] is what it gets; the masses add up to the total. By weights and by
+ * room, what falls to the first items, however many, is their exact part to the nearest unit with halves up: of two items alike the earlier
+ * one gets, or gives, the odd unit. deficit[0] is what is missing or, below 0, too much: the total minus the sum of the targets, each
+ * clipped into its low and high; later entries of `deficit` are left alone. The number of items is that of the targets, 1 to 512; every
+ * other list but `deficit` must have the same length. Lows and weights must not be below 0, and highs and weights each add up to at most
+ * 2147483647.
  * Refusals: 1, 3 (also `deficit` without an entry), 5 (place: the first item), 6, 7, 8. */
 uint64_t legzhuro_split(const int64_t *targets, size_t targets_len, const int64_t *lows, size_t lows_len, const int64_t *highs,
                         size_t highs_len, const int64_t *weights, size_t weights_len, int64_t total, int64_t *masses, size_t masses_len,

@@ -129,7 +129,8 @@ fn break_split(random: &mut Random, call: &mut SplitCall) {
     }
 }
 
-fn make_split(random: &mut Random) -> SplitCall {
+/// A split in which nothing is broken; its total may be out of reach.
+pub fn sound_split(random: &mut Random) -> SplitCall {
     let cells = random::cell_count(random);
     let field = random::field(random, cells);
     let wide = |list: &[u32]| list.iter().map(|&value| i64::from(value)).collect::<Vec<i64>>();
@@ -149,6 +150,11 @@ fn make_split(random: &mut Random) -> SplitCall {
     if random.chance(70) {
         call.total = call.total.clamp(call.lows.iter().sum(), call.highs.iter().sum());
     }
+    call
+}
+
+fn make_split(random: &mut Random) -> SplitCall {
+    let mut call = sound_split(random);
     for _ in 0..breaks(random) {
         break_split(random, &mut call);
     }

@@ -1,5 +1,5 @@
-//! The examples E1 to E10 of 01 and its places where programs stray, what is shared out in them after ticket 2 of 02, and more of that, run
-//! through the second implementation and the library both.
+//! The examples E1 to E10 of 01 and its places where programs stray, with the rounding of ticket 3 of 02, what is shared out in them after
+//! ticket 2, and more of both, run through the second implementation and the library both.
 
 use crate::check_calls::{compare_import, compare_split, SplitCall};
 use crate::check_files::repaired_by_files;
@@ -8,6 +8,7 @@ use crate::from_c::returned;
 use crate::listing::listing;
 use crate::operations::{reconstruct, refuse_at, LIMIT, MAX_NODES};
 use crate::random;
+use crate::split::rounded;
 use crate::tally::Tally;
 use crate::tree::{Field, Repair, Workspace};
 
@@ -67,9 +68,9 @@ fn fields(tally: &mut Tally) {
     expect(tally, "E1 listing", listing(&mut FileWorkspace::default(), &field_file(&one, 16)), E1.to_string());
     // Sharing over all cells is what the flat tree does.
     let no_tree = field(&random::flat(4), &[-2, 9, 4, 5], &[0; 4], &[8; 4], (0, 10));
-    check_field(tally, "stray: no tree", &no_tree, 16, Ok((0, vec![0, 8, 4, 4], 4, 1)));
+    check_field(tally, "stray: no tree", &no_tree, 16, Ok((0, vec![0, 8, 3, 5], 4, 1)));
     let four = field(&[2, 2, 2], &[3, 5], &[3, 5], &[4, 6], (0, 10));
-    check_field(tally, "E4", &four, 4, Ok((1, vec![2, 2], 4, 4)));
+    check_field(tally, "E4", &four, 4, Ok((1, vec![1, 3], 4, 4)));
     check_field(tally, "E5", &four, 14, Ok((2, vec![6, 8], 6, 4)));
     check_field(tally, "E5 at 20", &four, 20, Ok((2, vec![10, 10], 12, 10)));
     check_field(tally, "E6", &four, 21, Err((8, 0)));
@@ -84,9 +85,9 @@ fn fields(tally: &mut Tally) {
 
 /// Ticket 2: d of either sign, the most that can be shared out, and a field of one node, which shares out 0.
 fn shared(tally: &mut Tally) {
-    // d is 1 at the root, 5 at node 5 and -4 at node 4.
+    // d is 1 at the root, 4 at node 5 and -3 at node 4.
     let signs = field(&[4, 4, 5, 5, 6, 6, 6], &[-6, 4, 12, 2], &[0; 4], &[8; 4], (0, 10));
-    check_field(tally, "shared out at every node", &signs, 15, Ok((0, vec![0, 0, 8, 7], 19, 10)));
+    check_field(tally, "shared out at every node", &signs, 15, Ok((0, vec![0, 1, 8, 6], 17, 8)));
     let most = LIMIT as u32;
     let tall = random::tall(1, MAX_NODES);
     let all = LIMIT * (MAX_NODES as u64 - 1);
@@ -104,12 +105,26 @@ fn shared(tally: &mut Tally) {
 
 fn splits(tally: &mut Tally) {
     let ones: [&[i64]; 4] = [&[0; 3], &[0; 3], &[1; 3], &[0; 3]];
-    check_split(tally, "E2", ones, 2, (0, &[0, 1, 1], 2));
+    check_split(tally, "E2", ones, 2, (0, &[1, 0, 1], 2));
     check_split(tally, "E2 at 3", ones, 3, (0, &[1, 1, 1], 3));
     check_split(tally, "E2 at 4", ones, 4, (8, &[-9; 3], -9));
     check_split(tally, "E3", [&[0, 0], &[0, 0], &[10, 3], &[1, 3]], 8, (0, &[5, 3], 8));
     check_split(tally, "d below 0", [&[9, 9], &[0, 0], &[8, 8], &[0, 0]], 4, (0, &[2, 2], -12));
     check_split(tally, "d is 0", [&[1, 9], &[0, 0], &[8, 8], &[0, 0]], 9, (0, &[1, 8], 0));
+}
+
+/// Ticket 3: E2 with each share rounded alone; halves, of either sign and in either pass; and the largest numbers that are rounded.
+fn roundings(tally: &mut Tally) {
+    // A unit more than there is to share out.
+    expect(tally, "stray: E2 rounded alone", [1; 3].map(|capacity| rounded(2 * capacity, 3)), [1; 3]);
+    check_split(tally, "a half given", [&[0, 0], &[0, 0], &[5, 5], &[0, 0]], 3, (0, &[2, 1], 3));
+    check_split(tally, "a half taken", [&[5, 5], &[0, 0], &[5, 5], &[0, 0]], 7, (0, &[3, 4], -3));
+    check_split(tally, "a half by weights", [&[0, 0], &[0, 0], &[5, 5], &[4, 4]], 3, (0, &[2, 1], 3));
+    check_split(tally, "one unit among three", [&[0; 3], &[0; 3], &[5; 3], &[0; 3]], 1, (0, &[0, 1, 0], 1));
+    let most = LIMIT as i64;
+    check_split(tally, "the largest product", [&[0], &[0], &[most], &[most]], most, (0, &[most], most));
+    let (less, more) = (most / 2, most / 2 + 1);
+    check_split(tally, "the largest products", [&[0, 0], &[0, 0], &[more, less], &[less, more]], most, (0, &[more, less], most));
 }
 
 fn imports(tally: &mut Tally) {
@@ -136,6 +151,7 @@ pub fn examples(tally: &mut Tally) {
     fields(tally);
     shared(tally);
     splits(tally);
+    roundings(tally);
     imports(tally);
     answer_file(tally);
 }

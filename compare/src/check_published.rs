@@ -1,8 +1,9 @@
-//! What the publication (Bradley, Bosler, Guba, Taylor, Barnett, SIAM J. Sci. Comput. 2019) says of its methods, in whole numbers: the
-//! redistribution of Figure 5.2(b), the norm of Proposition 3.3 and the deviation of Proposition 3.10(ii). The masses of the second
-//! implementation and of the library are both compared with it, and with each other.
+//! What the publication (Bradley, Bosler, Guba, Taylor, Barnett, SIAM J. Sci. Comput. 2019) says of its methods, in whole numbers with the
+//! rounding of ticket 3 of 02: the proportions of Algorithm 3.1, the redistribution of Figure 5.2(b), the norm of Proposition 3.3 and the
+//! deviation of Proposition 3.10(ii). The masses of the second implementation and of the library are both compared with it, and with each
+//! other.
 
-use crate::check_calls::{compare_step, make_step};
+use crate::check_calls::{compare_split, compare_step, make_step, sound_split};
 use crate::random::{self, Random};
 use crate::tally::Tally;
 use crate::tree::{sum, Field, Workspace};
@@ -160,6 +161,35 @@ fn propositions(tally: &mut Tally, random: &mut Random, workspace: &mut Workspac
     }
 }
 
+/// Algorithm 3.1, ClipAndAssuredSum: each item gets its clipped target and a share of d in proportion to its capacity. In whole numbers the
+/// shares up to each item, without their sign, add up to what the published ones add up to, rounded to nearest with halves up. So each share
+/// is less than one unit from the published one.
+fn proportions(tally: &mut Tally, random: &mut Random) {
+    let mut call = sound_split(random);
+    call.weights.fill(0);
+    let exit = compare_split(tally, &call);
+    if exit.returned != 0 {
+        return;
+    }
+    let d = exit.deficit[0];
+    let items = 0..call.targets.len();
+    let clipped = |item: usize| call.targets[item].clamp(call.lows[item], call.highs[item]);
+    let capacity = |item: usize| if d > 0 { call.highs[item] - clipped(item) } else { clipped(item) - call.lows[item] };
+    let all: i64 = items.clone().map(capacity).sum();
+    // The published sum is held times `all`.
+    let (mut published, mut given) = (0, 0);
+    for item in items {
+        let share = exit.masses[item] - clipped(item);
+        published += d.abs() * capacity(item);
+        given += share * d.signum();
+        let fits = if d == 0 { share == 0 } else { (-all..all).contains(&(2 * (published - given * all))) };
+        if !fits {
+            tally.difference(format!("Algorithm 3.1 on {call:?}: item {item} of {exit:?}"));
+            return;
+        }
+    }
+}
+
 pub fn published(tally: &mut Tally, random: &mut Random, count: u64) {
     for weight in [0, 1] {
         for mass in (1..=32).chain([64]) {
@@ -169,5 +199,6 @@ pub fn published(tally: &mut Tally, random: &mut Random, count: u64) {
     let mut workspace = Workspace::default();
     for _ in 0..count {
         propositions(tally, random, &mut workspace);
+        proportions(tally, random);
     }
 }

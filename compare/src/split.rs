@@ -1,9 +1,9 @@
-//! One split of a total among items, after the section "One split" of 01, steps 1 to 5, and ticket 2 of 02. Written from the papers alone;
-//! shares no code with the library.
+//! One split of a total among items, after the section "One split" of 01, steps 1 to 5, and tickets 2 and 3 of 02. Written from the papers
+//! alone; shares no code with the library.
 //!
 //! Once an operation's checks have passed, highs and weights each add up to at most 2147483647 and the total lies between the sums of the
-//! lows and the highs. Every product below is then under 2^62, so 64 bits are enough. Targets may be any 64-bit numbers: they are only
-//! compared.
+//! lows and the highs. Every product below is then at most 2147483647^2, and twice that plus 2147483647 is under 2^63, so 64 bits are
+//! enough. Targets may be any 64-bit numbers: they are only compared.
 
 /// An item of a split. `mass` is the result.
 #[derive(Clone, Copy, Default)]
@@ -53,9 +53,9 @@ fn capacity(item: &Item, sign: i64) -> i64 {
     }
 }
 
-/// The rounded quotient of both passes.
-fn rounded(a: i64, b: i64) -> i64 {
-    a / b
+/// The rounded quotient of both passes, after ticket 3 of 02.
+pub fn rounded(a: i64, b: i64) -> i64 {
+    (2 * a + b) / (2 * b)
 }
 
 /// Step 3: shares `size` out by weights and returns what is left of it.

@@ -1,4 +1,5 @@
--- 01's starred examples, E1 to E10: what is asked, and what must be given, with d and what is shared out (ticket 2 of 02). Assumes nothing.
+-- 01's starred examples, E1 to E10: what is asked, and what must be given, with d and what is shared out (ticket 2 of 02) and with the rounding
+-- of ticket 3 of 02, by which E2 with M 2 and E4 give other masses than in 01. Assumes nothing.
 use mathlib.Core.List.{List, [], _∷_}
 use Prim.Native.Nat.{ℕ}
 use lib.IntN.{ℤ, pos, negsuc}
@@ -47,7 +48,7 @@ abbrev pub e1Lists : Lists
 e1Lists =
     lists (negsuc 1 ∷ pos 9 ∷ pos 4 ∷ pos 5 ∷ []) (replicate 4 0) (replicate 4 8) (replicate 4 0) (replicate 4 10) (replicate 4 0) (4 ∷ 4 ∷ 5 ∷ 5 ∷ 6 ∷ 6 ∷ 6 ∷ [])
 
-abbrev e2 : ℤ → SplitCall
+abbrev pub e2 : ℤ → SplitCall
 e2 M = splitCall (replicate 3 (pos 0)) (replicate 3 (pos 0)) (replicate 3 (pos 1)) (replicate 3 (pos 0)) M (replicate 3 (pos 9))
 
 abbrev e3 : SplitCall
@@ -94,13 +95,13 @@ others =
     -- E1's field, by Reconstruct
     row (repairs (reconstructCall e1Lists 16 (replicate 4 9) (replicate 42 (pos 1)))) (repaired 0 16 4 1 (0 ∷ 7 ∷ 4 ∷ 5 ∷ []))
     -- E2
-    ∷ row (splits (e2 (pos 2))) (done (pos 2) (pos 0 ∷ pos 1 ∷ pos 1 ∷ []))
+    ∷ row (splits (e2 (pos 2))) (done (pos 2) (pos 1 ∷ pos 0 ∷ pos 1 ∷ []))
     ∷ row (splits (e2 (pos 3))) (done (pos 3) (pos 1 ∷ pos 1 ∷ pos 1 ∷ []))
     ∷ row (splits (e2 (pos 4))) (split (refused 8 0) (replicate 3 (pos 9)))
     -- E3
     ∷ row (splits e3) (done (pos 8) (pos 5 ∷ pos 3 ∷ []))
     -- E4, E5, E6
-    ∷ row (repairs (e4 4 (2 ∷ 2 ∷ 2 ∷ []))) (repaired 1 4 4 4 (2 ∷ 2 ∷ []))
+    ∷ row (repairs (e4 4 (2 ∷ 2 ∷ 2 ∷ []))) (repaired 1 4 4 4 (1 ∷ 3 ∷ []))
     ∷ row (repairs (e4 14 (2 ∷ 2 ∷ 2 ∷ []))) (repaired 2 14 6 4 (6 ∷ 8 ∷ []))
     ∷ row (repairs (e4 20 (2 ∷ 2 ∷ 2 ∷ []))) (repaired 2 20 12 10 (10 ∷ 10 ∷ []))
     ∷ row (repairs (e4 21 (2 ∷ 2 ∷ 2 ∷ []))) (repair (refused 8 0) (9 ∷ 9 ∷ []))

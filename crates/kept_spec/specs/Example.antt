@@ -59,7 +59,7 @@ sixth =
     record {
       call = stepCall 10 (4 ∷ 6 ∷ []) (negsuc 3) two (replicate 18 (pos 1));
       answer = Accepted (record { outcome = 0; total = 6; change = 2; shared = 2 });
-      kept = 3 ∷ 3 ∷ [];
+      kept = 2 ∷ 4 ∷ [];
       scratch = replicate 18 (pos 0);
     }
 
@@ -67,4 +67,4 @@ abbrev pub events : List Event
 events = first ∷ second ∷ third ∷ fourth ∷ fifth ∷ sixth ∷ []
 
 abbrev pub last : Standing
-last = record { kept = 3 ∷ 3 ∷ []; balance = record { total = 6 } }
+last = record { kept = 2 ∷ 4 ∷ []; balance = record { total = 6 } }

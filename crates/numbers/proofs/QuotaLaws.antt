@@ -1,29 +1,40 @@
 -- The rounded quotient: all that anything else may use of it. Assumes nothing.
--- The first four laws read the definition; the others follow from those alone, so they hold of every rounding that has the four.
+-- The first law says which rounding it is. All else goes by the four after it, so it holds of every rounding that has those.
 use mathlib.Core.Path.{_≡_, sym, _∙_, ap}
 use Prim.Native.Nat.{ℕ, zero, suc, _+_, _-_, _*_, _/_, _%_, _≤_, _<_}
 use native.Mathlib.Omega.{arith}
-use native.Mathlib.Nat.{le-trans, le-of-eq, zero-add, div-zero, zero-div, div-mul-le-self, le-div-iff-mul-le, add-mul-div-right, mul-le-mul-left, mul-le-mul-right, mul-add, add-mul, mul-comm, div-add-mod', mod-lt, lt-div-mul-add}
+use native.Mathlib.Nat.{le-trans, le-of-eq, zero-add, div-zero, div-eq-of-lt, div-mul-le-self, le-div-iff-mul-le, add-mul-div-right, mul-le-mul-left, mul-le-mul-right, mul-add, add-mul, mul-comm, mul-left-comm, div-add-mod', mod-lt, lt-div-mul-add}
 use native.Mathlib.Decide.{decLt}
 use Rattle.numbers.specs.Quota.{quota}
 
+-- it rounds to nearest, and halves up: with q = quota a b, q − 1/2 ≤ a ÷ b < q + 1/2
+pub quota-nearest : (a b : ℕ) → 0 < b → (2 * (quota a b * b) ≤ 2 * a + b) × (2 * a < 2 * (quota a b * b) + b)
+unfolding quota
+quota-nearest a b h =
+    let whole = mul-left-comm (quota a b) 2 b in
+    let most : 2 * a < 2 * (quota a b * b) + b = omega (arith, whole, lt-div-mul-add {a = 2 * a + b} {b = 2 * b} (omega (arith, h))) in
+    (omega (arith, whole, div-mul-le-self (2 * a + b) (2 * b)), most)
+
+-- ---- what all else goes by; these too read the definition
+
 pub quota-mono : (c a b : ℕ) → a ≤ b → quota a c ≤ quota b c
 unfolding quota
-quota-mono zero a b h = rw (div-zero a, div-zero b) (omega arith)
-quota-mono (suc c) a b h = le-div-iff-mul-le {k = suc c} {x = a / suc c} {y = b} (omega arith) .1 (le-trans (div-mul-le-self a (suc c)) h)
+quota-mono zero a b h = le-of-eq (div-zero _ ∙ sym (div-zero _))
+quota-mono (suc c) a b h = le-div-iff-mul-le {k = 2 * suc c} (omega arith) .1 (le-trans (div-mul-le-self _ (2 * suc c)) (omega (arith, h)))
 
 pub quota-zero : (b : ℕ) → quota 0 b ≡ 0
 unfolding quota
-quota-zero b = zero-div b
+quota-zero zero = div-zero 0
+quota-zero (suc b) = div-eq-of-lt (omega arith)
 
 pub quota-none : (a : ℕ) → quota a 0 ≡ 0
 unfolding quota
-quota-none a = div-zero a
+quota-none a = div-zero _
 
 -- a whole summand comes out
 pub quota-plus : (a c b : ℕ) → 0 < b → quota (a + c * b) b ≡ quota a b + c
 unfolding quota
-quota-plus a c b h = add-mul-div-right a c h
+quota-plus a c b h = ap (λ x. x / (2 * b)) (omega (arith, mul-left-comm c 2 b)) ∙ add-mul-div-right _ c (omega (arith, h))
 
 -- ---- what follows
 

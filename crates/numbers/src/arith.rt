@@ -97,7 +97,7 @@ pub fn minus(mass: u32, target: i32) -> i64
     m - t
 }
 
-// The rounded quotient, 0 where there is nothing to divide by. The bounds leave room for any rounding that doubles its operands.
+// The rounded quotient, 0 where there is nothing to divide by. The bounds leave room for the doubled operands.
 pub fn quotient(a: u64, b: u64) -> u64
     requires { ⌜ (a < 2 ^ 62) × (b < 2 ^ 31) ⌝ }
     ensures { λ r. ⌜ r ≡ quota a b ⌝ }
@@ -105,5 +105,5 @@ pub fn quotient(a: u64, b: u64) -> u64
     if b == 0 {
         return 0;
     }
-    a / b
+    (2 * a + b) / (2 * b)
 }
