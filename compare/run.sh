@@ -22,5 +22,6 @@ if [ "${1:-}" = drift ]; then
     cargo build --release --features library --bin drift --offline --quiet
     exec "$CARGO_TARGET_DIR/release/drift"
 fi
-cargo build --release --features library --bin compare --offline --quiet
+# All programs, so that those which only measure go on building.
+cargo build --release --features library --bins --offline --quiet
 exec "$CARGO_TARGET_DIR/release/compare" "$program" "$@"

@@ -28,7 +28,7 @@ const READ_ANSWER: [usize; 6] = [14, 15, 16, 1, 3, 12];
 const ROUND_TRIP: [usize; 5] = [4, 5, 6, 7, 8];
 // Those of 01's examples.
 const EXAMPLES: [usize; 3] = [4, 8, 11];
-// Steps by valid fields to any total.
+// Steps by valid fields to any total, and splits with nothing broken.
 const PUBLISHED: [usize; 2] = [13, 8];
 
 const OUTCOMES: [usize; 3] = [0, 1, 2];
