@@ -54,7 +54,7 @@ e2 M = splitCall (replicate 3 (pos 0)) (replicate 3 (pos 0)) (replicate 3 (pos 1
 abbrev e3 : SplitCall
 e3 = splitCall (replicate 2 (pos 0)) (replicate 2 (pos 0)) (pos 10 ∷ pos 3 ∷ []) (pos 1 ∷ pos 3 ∷ []) (pos 8) (replicate 2 (pos 9))
 
-abbrev e4 : ℕ → List ℕ → ReconstructCall
+abbrev pub e4 : ℕ → List ℕ → ReconstructCall
 e4 M parents =
     reconstructCall (lists (pos 3 ∷ pos 5 ∷ []) (3 ∷ 5 ∷ []) (4 ∷ 6 ∷ []) (replicate 2 0) (replicate 2 10) (replicate 2 0) parents)
     M (replicate 2 9) (replicate 18 (pos 1))

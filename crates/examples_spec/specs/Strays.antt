@@ -19,7 +19,7 @@ use Rattle.qlt_spec.specs.Field.{lists, field, outcome, outcomeNumber, lowIn, h
 use Rattle.qlt_spec.specs.Masses.{massBetween, groupOf, treeMass, treeMasses, sharedOf, treeShared}
 use Rattle.qlt_spec.specs.Checks.{checkNodes, checkLists, checkTree, boundsOrdered, checkOrder, checkSum, checkReach, checkShape, checkValues}
 use Rattle.qlt_spec.specs.Operation.{ReconstructCall, reconstructCall, reconstructVerdict, repair}
-use Rattle.examples_spec.specs.Starred.{e2}
+use Rattle.examples_spec.specs.Starred.{e1Lists, e2, e4}
 
 -- a call, what it tells, and the masses that it leaves
 pub record Row : Type 0 where
@@ -30,7 +30,7 @@ pub record Row : Type 0 where
 -- E1 with no tree: sharing over all cells
 abbrev flat : ReconstructCall
 flat =
-    reconstructCall (lists (negsuc 1 ∷ pos 9 ∷ pos 4 ∷ pos 5 ∷ []) (replicate 4 0) (replicate 4 8) (replicate 4 0) (replicate 4 10) (replicate 4 0) (replicate 5 4))
+    reconstructCall (lists (e1Lists .targets) (e1Lists .lows) (e1Lists .highs) (e1Lists .safeLows) (e1Lists .safeHighs) (e1Lists .weights) (replicate 5 4))
     16 (replicate 4 9) (replicate 42 (pos 1))
 
 -- targets −4, 6, 6, the first two below one node: clipped before they are added up they would give 0 4 4
@@ -41,9 +41,7 @@ clipping =
 
 -- E4's field at a total that equals the sum of the lows, or of the highs: no safety bounds
 abbrev equal : ℕ → ReconstructCall
-equal M =
-    reconstructCall (lists (pos 3 ∷ pos 5 ∷ []) (3 ∷ 5 ∷ []) (4 ∷ 6 ∷ []) (replicate 2 0) (replicate 2 10) (replicate 2 0) (2 ∷ 2 ∷ 2 ∷ []))
-    M (replicate 2 9) (replicate 18 (pos 1))
+equal M = e4 M (2 ∷ 2 ∷ 2 ∷ [])
 
 abbrev pub rows : List Row
 rows =
