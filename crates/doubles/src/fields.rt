@@ -1,104 +1,36 @@
-// One double: its product with 2^k by the cases of IEEE 754, and what it gives as a target, a low or a high.
+// What a double gives as a target, a low or a high: its product with 2^k, rounded, if that is in range.
 ghost use mathlib.Core.Path.{_≡_};
-ghost use Prim.Native.Nat.{_*_, _^_, _≤_, _<_};
+ghost use Prim.Native.Nat.{_≤_};
 ghost use lib.IntN.{pos};
 ghost use Rattle.numbers.specs.Roundings.{signed};
-ghost use Rattle.doubles_spec.specs.Forms.{fraction, product, inTarget, inBound, targetField, lowField, highField};
+ghost use Rattle.doubles_spec.specs.Forms.{addedAway, addedNearest, inTarget, inBound, targetField, lowField, highField};
+use crate::cases::scaled;
 use doubles_spec::BoundField;
 use doubles_spec::Product;
+use doubles_spec::Rest;
 use doubles_spec::TargetField;
 
-// ±digits × 2^place ÷ 2^1075, for digits of 53 bits.
-pub fn normal(negative: bool, digits: u64, place: u64) -> Product
-    requires { ⌜ 2 ^ 52 ≤ digits ⌝ ∗ ⌜ digits < 2 ^ 53 ⌝ }
-    ensures { λ r. ⌜ r ≡ fraction negative (digits * 2 ^ place) (2 ^ 1075) ⌝ }
+// What rounding away from zero adds to the whole part.
+pub fn added_away(rest: Rest) -> u64
+    ensures { λ r. ⌜ r ≡ addedAway rest ⌝ }
 {
-    if place >= 1075 {
-        return Product::Finite {
-            negative,
-            whole: 0x10_0000_0000_0000,
-            rest: 0,
-        };
-    }
-    let s = 1075 - place;
-    if s >= 55 {
-        return Product::Finite {
-            negative,
-            whole: 0,
-            rest: 1,
-        };
-    }
-    let unit = 1u64 << s;
-    let whole = digits / unit;
-    let left = digits % unit;
-    if left == 0 {
-        return Product::Finite {
-            negative,
-            whole,
-            rest: 0,
-        };
-    }
-    if left * 2 < unit {
-        return Product::Finite {
-            negative,
-            whole,
-            rest: 1,
-        };
-    }
-    if left * 2 == unit {
-        return Product::Finite {
-            negative,
-            whole,
-            rest: 2,
-        };
-    }
-    Product::Finite {
-        negative,
-        whole,
-        rest: 3,
+    match rest {
+        Rest::Nothing => 0,
+        Rest::LessThanHalf => 1,
+        Rest::Half => 1,
+        Rest::MoreThanHalf => 1,
     }
 }
 
-// x × 2^k, by the case that x falls in.
-pub fn scaled(x: f64, k: u32) -> Product
-    requires { ⌜ k ≤ 30 ⌝ }
-    ensures { λ r. ⌜ r ≡ product k x ⌝ }
+// What rounding to nearest adds to the whole part, ties to even.
+pub fn added_nearest(whole: u64, rest: Rest) -> u64
+    ensures { λ r. ⌜ r ≡ addedNearest whole rest ⌝ }
 {
-    if x == x {
-        let bits = f64::to_bits(x);
-        let negative = bits >= 0x8000_0000_0000_0000;
-        let exponent = bits % 0x8000_0000_0000_0000 / 0x10_0000_0000_0000;
-        let digits = bits % 0x10_0000_0000_0000;
-        if exponent == 0 {
-            if digits == 0 {
-                // zero
-                Product::Finite {
-                    negative,
-                    whole: 0,
-                    rest: 0,
-                }
-            } else {
-                // subnormal
-                Product::Finite {
-                    negative,
-                    whole: 0,
-                    rest: 1,
-                }
-            }
-        } else if exponent < 2047 {
-            // normal
-            normal(
-                negative,
-                digits + 0x10_0000_0000_0000,
-                exponent + (k as u64),
-            )
-        } else {
-            // infinite
-            Product::NotFinite
-        }
-    } else {
-        // not a number
-        Product::NotFinite
+    match rest {
+        Rest::Nothing => 0,
+        Rest::LessThanHalf => 0,
+        Rest::Half => whole % 2,
+        Rest::MoreThanHalf => 1,
     }
 }
 
@@ -146,13 +78,7 @@ pub fn target_field(x: f64, k: u32) -> TargetField
             if whole >= 0x1_0000_0000 {
                 return TargetField::Bad(11);
             }
-            if rest == 3 {
-                return in_target(negative, whole + 1);
-            }
-            if rest == 2 {
-                return in_target(negative, whole + whole % 2);
-            }
-            in_target(negative, whole)
+            in_target(negative, whole + added_nearest(whole, rest))
         }
         Product::NotFinite => TargetField::Bad(10),
     }
@@ -178,10 +104,7 @@ pub fn low_field(x: f64, k: u32) -> BoundField
             if whole >= 0x8000_0000 {
                 return BoundField::Bad(11);
             }
-            if rest == 0 {
-                return in_bound(whole);
-            }
-            in_bound(whole + 1)
+            in_bound(whole + added_away(rest))
         }
         Product::NotFinite => BoundField::Bad(10),
     }
@@ -199,14 +122,10 @@ pub fn high_field(x: f64, k: u32) -> BoundField
             rest,
         } => {
             if negative {
-                if whole == 0 {
-                    if rest == 0 {
-                        return BoundField::Units(0);
-                    }
-                }
-                return BoundField::Bad(11);
+                BoundField::Bad(11)
+            } else {
+                in_bound(whole)
             }
-            in_bound(whole)
         }
         Product::NotFinite => BoundField::Bad(10),
     }

@@ -11,6 +11,7 @@ use doubles_spec::Exported;
 use doubles_spec::Imported;
 use doubles_spec::TargetField;
 
+mod cases;
 mod fields;
 mod power;
 
@@ -32,28 +33,33 @@ pub fn import(cell: CellDoubles, scale: u32) -> Imported
     if scale > 30 {
         return Imported::BadScale;
     }
-    match fields::target_field(cell.target, scale) {
-        TargetField::Units(target) => match fields::low_field(cell.low, scale) {
-            BoundField::Units(low) => match fields::high_field(cell.high, scale) {
-                BoundField::Units(high) => match fields::low_field(cell.safe_low, scale) {
-                    BoundField::Units(safe_low) => match fields::high_field(cell.safe_high, scale) {
-                        BoundField::Units(safe_high) => Imported::Units(CellUnits {
-                            target,
-                            low,
-                            high,
-                            safe_low,
-                            safe_high,
-                        }),
-                        BoundField::Bad(number) => refused(number, 4, cell.safe_high),
-                    },
-                    BoundField::Bad(number) => refused(number, 3, cell.safe_low),
-                },
-                BoundField::Bad(number) => refused(number, 2, cell.high),
-            },
-            BoundField::Bad(number) => refused(number, 1, cell.low),
-        },
-        TargetField::Bad(number) => refused(number, 0, cell.target),
-    }
+    let target = match fields::target_field(cell.target, scale) {
+        TargetField::Units(units) => units,
+        TargetField::Bad(number) => return refused(number, 0, cell.target),
+    };
+    let low = match fields::low_field(cell.low, scale) {
+        BoundField::Units(units) => units,
+        BoundField::Bad(number) => return refused(number, 1, cell.low),
+    };
+    let high = match fields::high_field(cell.high, scale) {
+        BoundField::Units(units) => units,
+        BoundField::Bad(number) => return refused(number, 2, cell.high),
+    };
+    let safe_low = match fields::low_field(cell.safe_low, scale) {
+        BoundField::Units(units) => units,
+        BoundField::Bad(number) => return refused(number, 3, cell.safe_low),
+    };
+    let safe_high = match fields::high_field(cell.safe_high, scale) {
+        BoundField::Units(units) => units,
+        BoundField::Bad(number) => return refused(number, 4, cell.safe_high),
+    };
+    Imported::Units(CellUnits {
+        target,
+        low,
+        high,
+        safe_low,
+        safe_high,
+    })
 }
 
 // mass × 2^−scale, exactly.

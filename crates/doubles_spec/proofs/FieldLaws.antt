@@ -1,21 +1,24 @@
 -- The three roundings, each from what `product` gives: the sign, the whole part cut at 2 ^ 52, and what is left. Assumes nothing.
 use mathlib.Core.Path.{_≡_, refl, sym, ap, _∙_, subst}
-use mathlib.Core.Bool.{Bool, true, false, cond}
+use mathlib.Core.Bool.{Bool, true, false, not, _&&_, cond}
 use Prim.Native.Nat.{ℕ, zero, suc, _+_, _-_, _*_, _/_, _%_, _^_, _≤_, _<_, min, compare, Ordering, Ordering·lt, Ordering·eq, Ordering·gt}
 use mir.Syntax.{w32}
 use mir.Val.{SFits, toZ, ofZ}
 use mir.ValLaws.{toZ-pos, toZ-ofZ}
-use native.Mathlib.Nat.{zero-add, add-zero, min-eq-left, le-of-lt}
+use native.Mathlib.Nat.{add-zero, zero-mul, mul-div-cancel, mul-mod-left, mul-pos, zero-lt-suc, div-add-mod', min-eq-left, le-of-lt, zero-add}
 use native.Mathlib.Numerals.{add-one}
 use native.Mathlib.Omega.{arith}
 use lib.IntN.{ℤ, pos, negsuc, _-ℤ_}
-use lib.Dec.{T, leb, ltb, eqb, eqb→eq}
+use lib.Dec.{T, leb, ltb, eqb, eqb→eq, eqb·suc-zero}
+use lib.Pow.{pow-pos}
 use lib.Ieee.{Float, nan, inf, fin, up, down, nearest}
-use lib.Ieee.Fits.{down-pos}
+use lib.Ieee.Fits.{up-pos, down-pos}
 use lib.Ieee.Nearest.{closest}
 use borrow.Author.Tests.{ltb-true, ltb-false, leb-true, lt-ltb, le-ltb, ne-eqb}
-use Rattle.numbers.specs.Roundings.{signed, roundUp, roundDown, roundNearest}
-use Rattle.doubles_spec.specs.Forms.{restAt, restOf, fraction, product, fieldBy, lowField, highField, targetField, inBound, inTarget}
+use Rattle.numbers.specs.Roundings.{ceiling, signed, roundUp, roundDown, roundNearest}
+use Rattle.doubles_spec.specs.Forms.{restAt, restOf, addedAway, addedNearest, fraction, product, fieldBy, lowField, highField, targetField, inBound, inTarget}
+use Rattle.doubles_spec.specs.declared.Rest.{Rest}
+use Rattle.doubles_spec.specs.declared.Rest.the-variants.{Nothing, LessThanHalf, Half, MoreThanHalf}
 use Rattle.doubles_spec.specs.declared.Product.{Product}
 use Rattle.doubles_spec.specs.declared.Product.the-variants.{Finite, NotFinite}
 use Rattle.doubles_spec.specs.declared.BoundField.{BoundField}
@@ -25,21 +28,30 @@ use Rattle.numbers.proofs.TestLaws.{Tested, holds, fails, tested, compare-is}
 -- ---- the roundings of a product
 abbrev pub lowFrom : Product → BoundField
 lowFrom (Finite true w r) = cond (eqb w 0) (BoundField.Units 0) (BoundField.Bad 11)
-lowFrom (Finite false w r) = cond (leb (2 ^ 31) w) (BoundField.Bad 11) (inBound (pos (w + cond (eqb r 0) 0 1)))
+lowFrom (Finite false w r) = cond (leb (2 ^ 31) w) (BoundField.Bad 11) (inBound (pos (w + addedAway r)))
 lowFrom NotFinite = BoundField.Bad 10
 
 abbrev pub highFrom : Product → BoundField
-highFrom (Finite true w r) = cond (eqb w 0) (cond (eqb r 0) (BoundField.Units 0) (BoundField.Bad 11)) (BoundField.Bad 11)
+highFrom (Finite true w r) = BoundField.Bad 11
 highFrom (Finite false w r) = inBound (pos w)
 highFrom NotFinite = BoundField.Bad 10
 
--- how much nearest adds to the whole part w
-abbrev pub more : ℕ → ℕ → ℕ
-more w r = cond (eqb r 3) 1 (cond (eqb r 2) (w % 2) 0)
-
 abbrev pub targetFrom : Product → TargetField
-targetFrom (Finite s w r) = cond (leb (2 ^ 32) w) (TargetField.Bad 11) (inTarget (signed s (w + more w r)))
+targetFrom (Finite s w r) = cond (leb (2 ^ 32) w) (TargetField.Bad 11) (inTarget (signed s (w + addedNearest w r)))
 targetFrom NotFinite = TargetField.Bad 10
+
+-- what a rounding adds is at most 1
+pub away-le : (r : Rest) → addedAway r ≤ 1
+away-le Nothing = omega arith
+away-le LessThanHalf = omega arith
+away-le Half = omega arith
+away-le MoreThanHalf = omega arith
+
+pub nearest-le : (w : ℕ) (r : Rest) → addedNearest w r ≤ 1
+nearest-le w Nothing = omega arith
+nearest-le w LessThanHalf = omega arith
+nearest-le w Half = omega arith
+nearest-le w MoreThanHalf = omega arith
 
 -- ---- the ranges: below 2 ^ 31, or not
 module _ {F : Type 0} (n : ℕ) (units bad : F) where
@@ -73,44 +85,84 @@ module _ {F : Type 0} (f : ℕ → F) (bad : F) (limit : ℕ) (past : (q : ℕ) 
       go (holds h) = rw h (past q (leb-true limit q h))
       go (fails h) = rw h
 
--- ---- a field by its product, if its rounding is what `from` says of a fraction
-by-product : {F : Type 0} (inRange : ℤ → F) (rounding : Bool → ℕ → ℕ → ℤ) (from : Product → F) → ((s : Bool) (a b : ℕ) → 0 < b → inRange (rounding s a b) ≡ from (fraction s a b))
-    → (k : ℕ) (x : Float) → fieldBy (from NotFinite) inRange rounding k x ≡ from (product k x)
-by-product inRange rounding from h k nan = refl
-by-product inRange rounding from h k (inf s) = refl
-by-product inRange rounding from h k (fin s m e) = h s (m * up e * 2 ^ k) (down e) (down-pos e)
+-- ---- each rounding leaves a whole number as it is
+abbrev pub KeepsWhole : (Bool → ℕ → ℕ → ℤ) → Type 0
+KeepsWhole rounding = (s : Bool) (n b : ℕ) → 0 < b → rounding s (n * b) b ≡ signed s n
+
+closest-whole : (n b : ℕ) → 0 < b → closest (n * b) b ≡ n
+closest-whole n b B =
+    ap (λ (r : ℕ). nearest (n * b / b) (compare (r * 2) b)) (mul-mod-left n b)
+    ∙ ap (λ (o : Ordering). nearest (n * b / b) o) (compare-is Ordering·lt 0 b B)
+    ∙ mul-div-cancel n B
+
+ceiling-whole : (n b : ℕ) → 0 < b → ceiling (n * b) b ≡ n
+ceiling-whole n b B = ap (λ (r : ℕ). n * b / b + cond (eqb r 0) 0 1) (mul-mod-left n b) ∙ add-zero (n * b / b) ∙ mul-div-cancel n B
+
+pub nearest-whole : KeepsWhole roundNearest
+nearest-whole s n b B = ap (signed s) (closest-whole n b B)
+
+pub up-whole : KeepsWhole roundUp
+up-whole false n b B = ap pos (ceiling-whole n b B)
+up-whole true n b B = ap (signed true) (mul-div-cancel n B)
+
+pub down-whole : KeepsWhole roundDown
+down-whole false n b B = ap pos (mul-div-cancel n B)
+down-whole true n b B = ap (signed true) (ceiling-whole n b B)
+
+-- ---- a field by its product, if its rounding is what `from` says of a fraction that is not minus zero
+module _ {F : Type 0} (inRange : ℤ → F) (rounding : Bool → ℕ → ℕ → ℤ) (from : Product → F) (whole : KeepsWhole rounding) (rounds : (s : Bool) (a b : ℕ) → (T s → 0 < a) → 0 < b → inRange (rounding s a b) ≡ from (fraction s a b)) where
+  -- minus zero is rounded as zero
+  no-sign : (s : Bool) (b : ℕ) → 0 < b → rounding s 0 b ≡ rounding false 0 b
+  no-sign false b B = refl
+  no-sign true b B = ap (λ (a : ℕ). rounding true a b) (sym (zero-mul b)) ∙ whole true 0 b B ∙ sym (whole false 0 b B) ∙ ap (λ (a : ℕ). rounding false a b) (zero-mul b)
+
+  at-zero : (s : Bool) (a b : ℕ) → 0 < b → a ≡ 0 → inRange (rounding s a b) ≡ from (fraction (s && false) a b)
+  at-zero s a b B e = rw e (ap inRange (no-sign s b B) ∙ rounds false 0 b (λ t. absurd t) B ∙ ap (λ (t : Bool). from (fraction t 0 b)) (sym (never s)))
+    where
+      never : (t : Bool) → t && false ≡ false
+      never true = refl
+      never false = refl
+
+  past-zero : (s : Bool) (a b : ℕ) → 0 < b → 0 < a → inRange (rounding s a b) ≡ from (fraction (s && true) a b)
+  past-zero s a b B A = rounds s a b (λ t. A) B ∙ ap (λ (t : Bool). from (fraction t a b)) (sym (always s))
+    where
+      always : (t : Bool) → t && true ≡ t
+      always true = refl
+      always false = refl
+
+  by-product : (k : ℕ) (x : Float) → fieldBy (from NotFinite) inRange rounding k x ≡ from (product k x)
+  by-product k nan = refl
+  by-product k (inf s) = refl
+  by-product k (fin s zero e) = at-zero s (0 * up e * 2 ^ k) (down e) (down-pos e) (ap (λ (n : ℕ). n * 2 ^ k) (zero-mul (up e)) ∙ zero-mul (2 ^ k))
+  by-product k (fin s (suc m) e) =
+      let a = suc m * up e * 2 ^ k in
+      past-zero s a (down e) (down-pos e) (mul-pos (mul-pos (zero-lt-suc m) (up-pos e)) (pow-pos k))
+      ∙ ap (λ (b : Bool). from (fraction (s && not b) a (down e))) (sym (eqb·suc-zero m))
 
 -- ---- the bounds
 past-bound : (q : ℕ) → 2 ^ 31 ≤ q → inBound (pos q) ≡ BoundField.Bad 11
 past-bound q h = out-of-range q (BoundField.Units q) (BoundField.Bad 11) h
 
 -- below 0 a bound is out of range
-minus-bound : (q d : ℕ) → inBound (signed true (q + d)) ≡ cond (eqb (min q (2 ^ 52)) 0) (inBound (signed true d)) (BoundField.Bad 11)
-minus-bound zero d = ap (λ (z : ℕ). inBound (signed true z)) (zero-add d)
-minus-bound (suc n) d =
-    ap (λ (z : ℕ). inBound (signed true z)) (up-one n d) ∙ sym (ap (λ (b : Bool). cond b (inBound (signed true d)) (BoundField.Bad 11)) (ne-eqb (min (suc n) (2 ^ 52)) 0 (λ e. omega arith)))
+minus-bound : (q : ℕ) → inBound (signed true q) ≡ cond (eqb (min q (2 ^ 52)) 0) (BoundField.Units 0) (BoundField.Bad 11)
+minus-bound zero = refl
+minus-bound (suc n) = sym (ap (λ (b : Bool). cond b (BoundField.Units 0) (BoundField.Bad 11)) (ne-eqb (min (suc n) (2 ^ 52)) 0 (λ e. omega arith)))
+
+-- what rounding away from zero adds to the whole part, by the remainder and by what is left
+added : (a b : ℕ) → cond (eqb (a % b) 0) 0 1 ≡ addedAway (restOf a b)
+added a b = go (eqb (a % b) 0) (compare (a % b * 2) b)
   where
-    up-one : (n d : ℕ) → suc n + d ≡ suc (n + d)
-    up-one n d = omega arith
-
-rest-none : (t : Bool) (o : Ordering) → eqb (restAt t o) 0 ≡ t
-rest-none true o = refl
-rest-none false Ordering·lt = refl
-rest-none false Ordering·eq = refl
-rest-none false Ordering·gt = refl
-
--- what a rounding adds to the whole part, by the remainder and by what is left
-abbrev one : Bool → ℕ
-one none = cond none 0 1
-
-added : (a b : ℕ) → one (eqb (a % b) 0) ≡ one (eqb (restOf a b) 0)
-added a b = ap one (sym (rest-none (eqb (a % b) 0) (compare (a % b * 2) b)))
+    go : (t : Bool) (o : Ordering) → cond t 0 1 ≡ addedAway (restAt t o)
+    go true o = refl
+    go false Ordering·lt = refl
+    go false Ordering·eq = refl
+    go false Ordering·gt = refl
 
 -- low: up
-low-fraction : (s : Bool) (a b : ℕ) → 0 < b → inBound (roundUp s a b) ≡ lowFrom (fraction s a b)
-low-fraction true a b B = ap (λ (z : ℕ). inBound (signed true z)) (sym (add-zero (a / b))) ∙ minus-bound (a / b) 0
-low-fraction false a b B =
-    let d = one (eqb (restOf a b) 0) in
+low-fraction : (s : Bool) (a b : ℕ) → (T s → 0 < a) → 0 < b → inBound (roundUp s a b) ≡ lowFrom (fraction s a b)
+low-fraction true a b A B = minus-bound (a / b)
+low-fraction false a b A B =
+    let d = addedAway (restOf a b) in
     let f : ℕ → BoundField = λ q. inBound (pos (q + d)) in
     let past : (q : ℕ) → 2 ^ 31 ≤ q → f q ≡ BoundField.Bad 11 = λ q l. past-bound (q + d) (omega arith) in
     ap (λ (z : ℕ). inBound (pos (a / b + z))) (added a b)
@@ -118,49 +170,53 @@ low-fraction false a b B =
     ∙ tested-first f (BoundField.Bad 11) (2 ^ 31) past (min (a / b) (2 ^ 52))
 
 pub low-product : (k : ℕ) (x : Float) → lowField k x ≡ lowFrom (product k x)
-low-product = by-product inBound roundUp lowFrom low-fraction
+low-product = by-product inBound roundUp lowFrom up-whole low-fraction
 
 -- high: down
-one-below : (t : Bool) → inBound (signed true (one t)) ≡ cond t (BoundField.Units 0) (BoundField.Bad 11)
-one-below true = refl
-one-below false = refl
+ceiling-pos : (a b : ℕ) → 0 < a → 0 < b → 0 < ceiling a b
+ceiling-pos a b A B = go (a / b) (eqb (a % b) 0) (λ t. eqb→eq (a % b) 0 t) (div-add-mod' a b)
+  where
+    go : (q : ℕ) (t : Bool) → (T t → a % b ≡ 0) → q * b + a % b ≡ a → 0 < q + cond t 0 1
+    go zero true n e = absurd (omega (arith, n tt, zero-mul b))
+    go (suc q) true n e = omega arith
+    go q false n e = omega arith
 
-high-fraction : (s : Bool) (a b : ℕ) → 0 < b → inBound (roundDown s a b) ≡ highFrom (fraction s a b)
-high-fraction true a b B =
-    let t = eqb (restOf a b) 0 in
-    ap (λ (z : ℕ). inBound (signed true (a / b + z))) (added a b)
-    ∙ minus-bound (a / b) (one t)
-    ∙ ap (λ (f : BoundField). cond (eqb (min (a / b) (2 ^ 52)) 0) f (BoundField.Bad 11)) (one-below t)
-high-fraction false a b B = cut (λ q. inBound (pos q)) (BoundField.Bad 11) (2 ^ 31) past-bound (omega arith) (a / b)
+high-fraction : (s : Bool) (a b : ℕ) → (T s → 0 < a) → 0 < b → inBound (roundDown s a b) ≡ highFrom (fraction s a b)
+high-fraction true a b A B = below (ceiling a b) (ceiling-pos a b (A tt) B)
+  where
+    below : (n : ℕ) → 0 < n → inBound (signed true n) ≡ BoundField.Bad 11
+    below zero h = absurd (omega arith)
+    below (suc n) h = refl
+high-fraction false a b A B = cut (λ q. inBound (pos q)) (BoundField.Bad 11) (2 ^ 31) past-bound (omega arith) (a / b)
 
 pub high-product : (k : ℕ) (x : Float) → highField k x ≡ highFrom (product k x)
-high-product = by-product inBound roundDown highFrom high-fraction
+high-product = by-product inBound roundDown highFrom down-whole high-fraction
 
 -- ---- the target: to nearest
 
 -- a whole part of which nothing is left compares as less
-near-is : (q : ℕ) (t : Bool) (o : Ordering) → (T t → o ≡ Ordering·lt) → nearest q o ≡ q + more q (restAt t o)
+near-is : (q : ℕ) (t : Bool) (o : Ordering) → (T t → o ≡ Ordering·lt) → nearest q o ≡ q + addedNearest q (restAt t o)
 near-is q true o h = ap (nearest q) (h tt) ∙ sym (add-zero q)
 near-is q false Ordering·lt h = sym (add-zero q)
 near-is q false Ordering·eq h = refl
 near-is q false Ordering·gt h = sym (add-one q)
 
-closest-is : (a b : ℕ) → 0 < b → closest a b ≡ a / b + more (a / b) (restOf a b)
+closest-is : (a b : ℕ) → 0 < b → closest a b ≡ a / b + addedNearest (a / b) (restOf a b)
 closest-is a b B = near-is (a / b) (eqb (a % b) 0) (compare (a % b * 2) b) none
   where
     none : T (eqb (a % b) 0) → compare (a % b * 2) b ≡ Ordering·lt
     none t = ap (λ (r : ℕ). compare (r * 2) b) (eqb→eq (a % b) 0 t) ∙ compare-is Ordering·lt 0 b B
 
-target-fraction : (s : Bool) (a b : ℕ) → 0 < b → inTarget (roundNearest s a b) ≡ targetFrom (fraction s a b)
-target-fraction s a b B =
-    let f : ℕ → TargetField = λ q. inTarget (signed s (q + more q (restOf a b))) in
-    let past : (q : ℕ) → 2 ^ 32 ≤ q → f q ≡ TargetField.Bad 11 = λ q l. far-out s (q + more q (restOf a b)) (omega arith) in
+target-fraction : (s : Bool) (a b : ℕ) → (T s → 0 < a) → 0 < b → inTarget (roundNearest s a b) ≡ targetFrom (fraction s a b)
+target-fraction s a b A B =
+    let f : ℕ → TargetField = λ q. inTarget (signed s (q + addedNearest q (restOf a b))) in
+    let past : (q : ℕ) → 2 ^ 32 ≤ q → f q ≡ TargetField.Bad 11 = λ q l. far-out s (q + addedNearest q (restOf a b)) (omega arith) in
     ap (λ (q : ℕ). inTarget (signed s q)) (closest-is a b B)
     ∙ cut f (TargetField.Bad 11) (2 ^ 32) past (omega arith) (a / b)
     ∙ tested-first f (TargetField.Bad 11) (2 ^ 32) past (min (a / b) (2 ^ 52))
 
 pub target-product : (k : ℕ) (x : Float) → targetField k x ≡ targetFrom (product k x)
-target-product = by-product inTarget roundNearest targetFrom target-fraction
+target-product = by-product inTarget roundNearest targetFrom nearest-whole target-fraction
 
 -- ---- -1 - (q - 1) in an i32
 minus-one-less : (n : ℕ) → negsuc 0 -ℤ pos n ≡ negsuc n

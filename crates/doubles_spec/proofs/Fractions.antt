@@ -9,7 +9,9 @@ use lib.Dec.{lit<, isEq, eqb}
 use lib.Pow.{pow-add, pow-pos, pow-mono, shr-lt, shl-exact}
 use lib.Ieee.Nearest.{div-same}
 use Rattle.numbers.proofs.TestLaws.{Cmp, cmp, compare-is}
-use Rattle.doubles_spec.specs.Forms.{restAt, restOf, fraction}
+use Rattle.doubles_spec.specs.Forms.{restAt, restBy, restOf, fraction}
+use Rattle.doubles_spec.specs.declared.Rest.{Rest}
+use Rattle.doubles_spec.specs.declared.Rest.the-variants.{Nothing, LessThanHalf}
 use Rattle.doubles_spec.specs.declared.Product.the-variants.{Finite}
 
 compare-scale : (a b c : ℕ) → 0 < c → compare (a * c) (b * c) ≡ compare a b
@@ -44,10 +46,13 @@ rest-same a b c d B D h =
 
 pub fraction-same : (s : Bool) (a b c d : ℕ) → 0 < b → 0 < d → a * d ≡ c * b → fraction s a b ≡ fraction s c d
 fraction-same s a b c d B D h =
-    ap (λ (q : ℕ). Finite s (min q (2 ^ 52)) (restOf a b)) (div-same a b c d B D h) ∙ ap (λ (r : ℕ). Finite s (min (c / d) (2 ^ 52)) r) (rest-same a b c d B D h)
+    ap (λ (q : ℕ). Finite s (min q (2 ^ 52)) (restOf a b)) (div-same a b c d B D h) ∙ ap (λ (r : Rest). Finite s (min (c / d) (2 ^ 52)) r) (rest-same a b c d B D h)
 
--- ---- a fraction below a half
-pub small-fraction : (s : Bool) (a b : ℕ) → 0 < a → a * 2 < b → fraction s a b ≡ Finite s 0 1
+-- ---- zero, and a fraction below a half
+pub zero-fraction : (s : Bool) (b : ℕ) → 0 < b → fraction s 0 b ≡ Finite s 0 Nothing
+zero-fraction s b B = ap (λ (q : ℕ). Finite s (min q (2 ^ 52)) (restOf 0 b)) (div-eq-of-lt B) ∙ ap (λ (r : ℕ). Finite s 0 (restBy r b)) (mod-eq-of-lt B)
+
+pub small-fraction : (s : Bool) (a b : ℕ) → 0 < a → a * 2 < b → fraction s a b ≡ Finite s 0 LessThanHalf
 small-fraction s a b p h =
     let l : a < b = omega arith in
     ap (λ (q : ℕ). Finite s (min q (2 ^ 52)) (restOf a b)) (div-eq-of-lt l)
@@ -57,7 +62,7 @@ small-fraction s a b p h =
 
 -- ---- digits * 2 ^ place / 2 ^ 1075
 module _ (s : Bool) (digits place : ℕ) (lo : 2 ^ 52 ≤ digits) (hi : digits < 2 ^ 53) where
-  pub large : 1075 ≤ place → fraction s (digits * 2 ^ place) (2 ^ 1075) ≡ Finite s (2 ^ 52) 0
+  pub large : 1075 ≤ place → fraction s (digits * 2 ^ place) (2 ^ 1075) ≡ Finite s (2 ^ 52) Nothing
   large h =
       let j = place - 1075 in
       let n = digits * 2 ^ j in
@@ -79,7 +84,7 @@ module _ (s : Bool) (digits place : ℕ) (lo : 2 ^ 52 ≤ digits) (hi : digits <
       split : place < 1075 → place + (1075 - place) ≡ 1075
       split h = omega arith
 
-  pub tiny : (j : ℕ) → 55 ≤ j → fraction s digits (2 ^ j) ≡ Finite s 0 1
+  pub tiny : (j : ℕ) → 55 ≤ j → fraction s digits (2 ^ j) ≡ Finite s 0 LessThanHalf
   tiny j h =
       let p : 2 ^ 55 ≤ 2 ^ j = pow-mono h in
       small-fraction s digits (2 ^ j) (omega arith) (omega arith)
@@ -92,12 +97,8 @@ module _ (s : Bool) (digits place : ℕ) (lo : 2 ^ 52 ≤ digits) (hi : digits <
       fit h = omega arith
 
   -- the whole part and what is left, by the unit that the code divides by
-  pub read-at : (u r : ℕ) → u ≡ 2 ^ (1075 - place) → place < 1075 → restOf digits u ≡ r → Finite s (digits / u) r ≡ fraction s (digits * 2 ^ place) (2 ^ 1075)
-  read-at u r e h k =
-      sym (shifted h
-      ∙ uncut (1075 - place) (some-place h)
-      ∙ ap (λ (v : ℕ). Finite s (digits / v) (restOf digits v)) (sym e)
-      ∙ ap (λ (q : ℕ). Finite s (digits / u) q) k)
+  pub read-at : (u : ℕ) → u ≡ 2 ^ (1075 - place) → place < 1075 → Finite s (digits / u) (restOf digits u) ≡ fraction s (digits * 2 ^ place) (2 ^ 1075)
+  read-at u e h = sym (shifted h ∙ uncut (1075 - place) (some-place h) ∙ ap (λ (v : ℕ). Finite s (digits / v) (restOf digits v)) (sym e))
     where
       some-place : place < 1075 → 1 ≤ 1075 - place
       some-place h = omega arith
@@ -110,11 +111,9 @@ unit-is j h = shl-exact 1 j 64 (lit< tt) (room h) ∙ one-mul (2 ^ j)
     room h = omega arith
 
 -- ---- what is left, by the tests that the code makes
-pub left-none : (a b : ℕ) → a % b ≡ 0 → restOf a b ≡ 0
-left-none a b h = ap (λ (r : ℕ). restAt (eqb r 0) (compare (r * 2) b)) h
+pub left-none : (r b : ℕ) → r ≡ 0 → restBy r b ≡ Nothing
+left-none r b h = ap (λ (q : ℕ). restBy q b) h
 
-some : (a b : ℕ) → (a % b ≡ 0 → ⊥) → eqb (a % b) 0 ≡ false
-some a b h = ap isEq (compare-is Ordering·gt (a % b) 0 (omega arith))
-
-pub left-some : (o : Ordering) (a b : ℕ) → (a % b ≡ 0 → ⊥) → Cmp o (a % b * 2) b → restOf a b ≡ restAt false o
-left-some o a b h k = ap (λ (t : Bool). restAt t (compare (a % b * 2) b)) (some a b h) ∙ ap (λ (p : Ordering). restAt false p) (compare-is o (a % b * 2) b k)
+pub left-some : (o : Ordering) (r b : ℕ) → (r ≡ 0 → ⊥) → Cmp o (r * 2) b → restBy r b ≡ restAt false o
+left-some o r b h k =
+    ap (λ (t : Bool). restAt t (compare (r * 2) b)) (ap isEq (compare-is Ordering·gt r 0 (omega arith))) ∙ ap (λ (p : Ordering). restAt false p) (compare-is o (r * 2) b k)

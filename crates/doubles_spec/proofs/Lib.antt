@@ -4,5 +4,6 @@ pub mod Patterns
 pub mod FieldLaws
 pub mod RoundingLaws
 pub mod ImportLaws
+pub mod OneFieldLaws
 pub mod ExportLaws
 pub mod TripLaws

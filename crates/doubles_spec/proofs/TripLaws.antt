@@ -1,45 +1,29 @@
 -- Importing exported masses at their scale gives the masses again: in each field, whatever the other four hold; and of calls, if each of the
 -- five fields is an exported mass, exactly these units. Assumes nothing.
 use mathlib.Core.Path.{_≡_, refl, sym, ap, _∙_, subst}
-use mathlib.Core.Logic.{⊎-elim}
-use mathlib.Core.Bool.{Bool, false, cond}
-use mathlib.Core.List.{List, [], _∷_}
-use Prim.Native.Nat.{ℕ, zero, suc, _+_, _*_, _/_, _^_, _≤_, _<_, compare, Ordering, Ordering·lt}
-use native.Mathlib.Nat.{add-zero, mul-div-cancel, mul-mod-left}
+use mathlib.Core.Bool.{Bool, false}
+use Prim.Native.Nat.{ℕ, zero, suc, _*_, _^_, _≤_, _<_}
 use native.Mathlib.Omega.{arith}
 use lib.IntN.{ℤ, pos}
-use lib.Dec.{eqb}
-use lib.Ieee.{Float, nan, inf, fin, up, down, nearest}
+use lib.Ieee.{Float, nan, inf, fin, up, down}
 use lib.Ieee.Fits.{down-pos}
-use lib.Ieee.Nearest.{closest}
 use Rattle.numbers.specs.declared.Checked.the-variants.{Pass}
-use Rattle.numbers.specs.Signed.{over}
-use Rattle.numbers.specs.Checks.{Rule, Broken, maxTotal}
-use Rattle.numbers.specs.Roundings.{ceiling, roundDown, roundUp, roundNearest}
-use Rattle.numbers.proofs.TestLaws.{compare-is}
+use Rattle.numbers.specs.Checks.{maxTotal}
+use Rattle.numbers.specs.Roundings.{roundDown, roundUp, roundNearest}
 use Rattle.numbers.proofs.SignedLaws.{parts-le}
 use Rattle.numbers.proofs.CheckLaws.{answered-accepted}
-use Rattle.doubles_spec.specs.Import.{IsFinite, scaled, targetUnits, lowUnits, highUnits, importVerdict, TargetRange, BoundRange, importRules, doubleAt, unitsAt, importUnits, importTells, importHolds, carried, ImportContract}
+use Rattle.doubles_spec.specs.Import.{IsFinite, scaled, targetUnits, lowUnits, highUnits, importVerdict, TargetRange, BoundRange, doubleAt, importUnits, importTells, importHolds, carried, ImportContract}
 use Rattle.doubles_spec.specs.Export.{exportVerdict, ExportFits, exportDouble, exportTells, Exact, ExportContract}
-use Rattle.doubles_spec.specs.Trip.{Back, CellMasses, ExportedAt, massUnits}
+use Rattle.doubles_spec.specs.OneField.{fieldUnits, FieldRange, Gives}
+use Rattle.doubles_spec.specs.Trip.{CellMasses, ExportedAt, massUnits}
 use Rattle.doubles_spec.specs.declared.CellDoubles.{CellDoubles}
 use Rattle.doubles_spec.specs.declared.Imported.{Imported}
 use Rattle.doubles_spec.specs.declared.Imported.the-variants.{Units}
 use Rattle.doubles_spec.specs.declared.Exported.the-variants.{Double}
-use Rattle.doubles_spec.proofs.ImportLaws.{import-accepts, import-refuses, import-answer-injective}
+use Rattle.doubles_spec.proofs.FieldLaws.{KeepsWhole, nearest-whole, up-whole, down-whole}
+use Rattle.doubles_spec.proofs.ImportLaws.{import-accepts, import-answer-injective}
+use Rattle.doubles_spec.proofs.OneFieldLaws.{field-gives}
 use Rattle.doubles_spec.proofs.ExportLaws.{export-accepts, export-exact}
-
--- ---- a whole number rounds to itself
-
-module _ (n b : ℕ) (B : 0 < b) where
-  closest-whole : closest (n * b) b ≡ n
-  closest-whole =
-      ap (λ (r : ℕ). nearest (n * b / b) (compare (r * 2) b)) (mul-mod-left n b)
-      ∙ ap (λ (o : Ordering). nearest (n * b / b) o) (compare-is Ordering·lt 0 b B)
-      ∙ mul-div-cancel n B
-
-  ceiling-whole : ceiling (n * b) b ≡ n
-  ceiling-whole = ap (λ (r : ℕ). n * b / b + cond (eqb r 0) 0 1) (mul-mod-left n b) ∙ add-zero (n * b / b) ∙ mul-div-cancel n B
 
 -- ---- one double
 
@@ -57,20 +41,20 @@ module _ (mass k : ℕ) where
   exact-finite (inf s) v = v
   exact-finite (fin s m e) v = tt
 
-  exact-rounds : (rounding : Bool → ℕ → ℕ → ℤ) → ((n b : ℕ) → 0 < b → rounding false (n * b) b ≡ pos n) → (x : Float) → Exact mass k x → scaled rounding k x ≡ pos mass
+  exact-rounds : (rounding : Bool → ℕ → ℕ → ℤ) → KeepsWhole rounding → (x : Float) → Exact mass k x → scaled rounding k x ≡ pos mass
   exact-rounds rounding whole nan v = absurd v
   exact-rounds rounding whole (inf s) v = absurd v
   exact-rounds rounding whole (fin s m e) v =
-      ap (λ (t : Bool). rounding t (m * up e * 2 ^ k) (down e)) (v .0) ∙ ap (λ (a : ℕ). rounding false a (down e)) (v .1) ∙ whole mass (down e) (down-pos e)
+      ap (λ (t : Bool). rounding t (m * up e * 2 ^ k) (down e)) (v .0) ∙ ap (λ (a : ℕ). rounding false a (down e)) (v .1) ∙ whole false mass (down e) (down-pos e)
 
   exact-back : mass ≤ maxTotal → (x : Float) → Exact mass k x → Again mass k x
   exact-back s x v =
       record {
         finite = exact-finite x v;
         small = s;
-        target = exact-rounds roundNearest (λ n b B. ap pos (closest-whole n b B)) x v;
-        low = exact-rounds roundUp (λ n b B. ap pos (ceiling-whole n b B)) x v;
-        high = exact-rounds roundDown (λ n b B. ap pos (mul-div-cancel n B)) x v;
+        target = exact-rounds roundNearest nearest-whole x v;
+        low = exact-rounds roundUp up-whole x v;
+        high = exact-rounds roundDown down-whole x v;
       }
 
 -- what rounds to a mass is in range
@@ -81,61 +65,27 @@ module _ {mass : ℕ} (s : mass ≤ maxTotal) {z : ℤ} (e : z ≡ pos mass) whe
   in-bound : BoundRange z
   in-bound = subst BoundRange (sym e) (parts-le (omega arith), parts-le (omega arith))
 
--- ---- rules of which none is broken at a place
-
-abbrev Safe : List Rule → ℕ → Type 0
-Safe [] place = Unit
-Safe (r ∷ rs) place = (r .fault place → ⊥) × Safe rs place
-
-unbroken : (rs : List Rule) (place : ℕ) → Safe rs place → (number : ℕ) → Broken rs number place → ⊥
-unfolding Broken
-unbroken [] place s number h = h
-unbroken (r ∷ rs) place s number h = ⊎-elim (λ f. s .0 (f .1)) (λ g. unbroken rs place (s .1) number (g .1)) h
-
--- one fact: it holds if this is its place
-fact-safe : {place field : ℕ} {P : Type 0} → (place ≡ field → P) → (field ≡ place) × (P → ⊥) → ⊥
-fact-safe h b = b .1 (h (sym (b .0)))
-
 -- ---- the cell
 
-module _ {mass k : ℕ} (x : Float) (a : Again mass k x) (scale : k ≤ 30) (c : CellDoubles) (field : ℕ) (e : doubleAt c field ≡ x) where
-  -- what holds of the double holds of the one in this field
-  here : {place : ℕ} (P : Float → Type 0) → P x → place ≡ field → P (doubleAt c place)
-  here P p q = subst P (sym (ap (doubleAt c) q ∙ e)) p
+-- in each field
+module _ {mass k : ℕ} {x : Float} (a : Again mass k x) where
+  field-again : (field : ℕ) → field < 5 → fieldUnits field k x ≡ pos mass
+  field-again zero l = a .target
+  field-again (suc zero) l = a .low
+  field-again (suc (suc zero)) l = a .high
+  field-again (suc (suc (suc zero))) l = a .low
+  field-again (suc (suc (suc (suc zero)))) l = a .high
+  field-again (suc (suc (suc (suc (suc field))))) l = absurd (omega arith)
 
-  -- the two rules of a place, before others
-  two-safe : (place : ℕ) (P : Float → Type 0) {S : Type 0} → P x → S
-      → ((field ≡ place) × (IsFinite (doubleAt c place) → ⊥) → ⊥) × (((field ≡ place) × (P (doubleAt c place) → ⊥) → ⊥) × S)
-  two-safe place P p s = (fact-safe (here IsFinite (a .finite)), (fact-safe (here P p), s))
-
-  rules-safe : Safe (importRules c k) field
-  unfolding importRules
-  rules-safe = (
-    fact-safe (λ q. scale),
-    two-safe 0 (λ y. TargetRange (targetUnits k y)) (in-target (a .small) (a .target))
-        (two-safe 1 (λ y. BoundRange (lowUnits k y)) (in-bound (a .small) (a .low))
-        (two-safe 2 (λ y. BoundRange (highUnits k y)) (in-bound (a .small) (a .high))
-        (two-safe 3 (λ y. BoundRange (lowUnits k y)) (in-bound (a .small) (a .low))
-        (two-safe 4 (λ y. BoundRange (highUnits k y)) (in-bound (a .small) (a .high)) tt)))),
-  )
-
-units-again : {mass k : ℕ} (x : Float) → Again mass k x → (c : CellDoubles) (field : ℕ) → field < 5 → doubleAt c field ≡ x → unitsAt (importUnits c k) field ≡ pos mass
-unfolding importUnits
-units-again {k = k} x a c zero l e = ap (targetUnits k) e ∙ a .target
-units-again {k = k} x a c (suc zero) l e = ap (λ z. pos (over z)) (ap (lowUnits k) e ∙ a .low)
-units-again {k = k} x a c (suc (suc zero)) l e = ap (λ z. pos (over z)) (ap (highUnits k) e ∙ a .high)
-units-again {k = k} x a c (suc (suc (suc zero))) l e = ap (λ z. pos (over z)) (ap (lowUnits k) e ∙ a .low)
-units-again {k = k} x a c (suc (suc (suc (suc zero)))) l e = ap (λ z. pos (over z)) (ap (highUnits k) e ∙ a .high)
-units-again x a c (suc (suc (suc (suc (suc field))))) l e = absurd (omega arith)
+  field-range : (field : ℕ) → field < 5 → FieldRange field (fieldUnits field k x)
+  field-range zero l = in-target (a .small) (field-again 0 l)
+  field-range (suc field) l = in-bound (a .small) (field-again (suc field) l)
 
 -- a cell that holds an exported mass in a field
-pub round-trip : {mass k : ℕ} → ExportFits mass k → (c : CellDoubles) (field : ℕ) → field < 5 → doubleAt c field ≡ exportDouble mass k → Back mass k c field
+pub round-trip : {mass k : ℕ} → ExportFits mass k → (c : CellDoubles) (field : ℕ) → field < 5 → doubleAt c field ≡ exportDouble mass k → Gives c k field (pos mass)
 round-trip {mass} {k} fits c field l e =
-    let a = exact-back mass k (fits .small) (exportDouble mass k) (export-exact fits) in
-    record {
-      notRefused = λ number v. unbroken (importRules c k) field (rules-safe (exportDouble mass k) a (fits .scale) c field e) number (import-refuses c k number field .0 v);
-      again = λ v. units-again (exportDouble mass k) a c field l e;
-    }
+    let a : Again mass k (doubleAt c field) = subst (Again mass k) (sym e) (exact-back mass k (fits .small) (exportDouble mass k) (export-exact fits)) in
+    subst (Gives c k field) (field-again a field l) (field-gives c k field (fits .scale) (a .finite) (field-range a field l))
 
 -- ---- calls
 

@@ -1,5 +1,5 @@
 -- The forms of Import that the code follows, field by field; laws in proofs/ say that they give what the definitions of Import give. Assumes nothing.
-use mathlib.Core.Bool.{Bool, true, false, cond}
+use mathlib.Core.Bool.{Bool, true, false, not, _&&_, cond}
 use Prim.Native.Nat.{ℕ, _*_, _/_, _%_, _^_, min, compare, Ordering, Ordering·lt, Ordering·eq, Ordering·gt}
 use lib.IntN.{ℤ, pos, negsuc}
 use lib.Dec.{leb, ltb, eqb}
@@ -9,29 +9,48 @@ use Rattle.numbers.specs.Roundings.{roundNearest, roundUp, roundDown}
 use Rattle.doubles_spec.specs.declared.CellDoubles.{CellDoubles}
 use Rattle.doubles_spec.specs.declared.Imported.{Imported}
 use Rattle.doubles_spec.specs.declared.Imported.the-variants.{Units, BadScale, Refused}
+use Rattle.doubles_spec.specs.declared.Rest.{Rest}
+use Rattle.doubles_spec.specs.declared.Rest.the-variants.{Nothing, LessThanHalf, Half, MoreThanHalf}
 use Rattle.doubles_spec.specs.declared.Product.{Product}
 use Rattle.doubles_spec.specs.declared.Product.the-variants.{Finite, NotFinite}
 use Rattle.doubles_spec.specs.declared.TargetField.{TargetField}
 use Rattle.doubles_spec.specs.declared.BoundField.{BoundField}
 
--- ---- what is left of a / b: nothing, less than a half, a half, more
-abbrev pub restAt : Bool → Ordering → ℕ
-restAt true o = 0
-restAt false Ordering·lt = 1
-restAt false Ordering·eq = 2
-restAt false Ordering·gt = 3
+-- ---- what is left of a division by b: r, a remainder
+abbrev pub restAt : Bool → Ordering → Rest
+restAt true o = Nothing
+restAt false Ordering·lt = LessThanHalf
+restAt false Ordering·eq = Half
+restAt false Ordering·gt = MoreThanHalf
 
-abbrev pub restOf : ℕ → ℕ → ℕ
-restOf a b = restAt (eqb (a % b) 0) (compare (a % b * 2) b)
+abbrev pub restBy : ℕ → ℕ → Rest
+restBy r b = restAt (eqb r 0) (compare (r * 2) b)
+
+abbrev pub restOf : ℕ → ℕ → Rest
+restOf a b = restBy (a % b) b
+
+-- what a rounding adds to the whole part: away from zero, and to nearest with ties to even
+abbrev pub addedAway : Rest → ℕ
+addedAway Nothing = 0
+addedAway LessThanHalf = 1
+addedAway Half = 1
+addedAway MoreThanHalf = 1
+
+abbrev pub addedNearest : ℕ → Rest → ℕ
+addedNearest whole Nothing = 0
+addedNearest whole LessThanHalf = 0
+addedNearest whole Half = whole % 2
+addedNearest whole MoreThanHalf = 1
 
 -- ±a / b, its whole part cut at 2 ^ 52
 abbrev pub fraction : Bool → ℕ → ℕ → Product
 fraction s a b = Finite s (min (a / b) (2 ^ 52)) (restOf a b)
 
+-- minus zero is 0: the sign is minus below zero alone
 abbrev pub product : ℕ → Float → Product
 product k nan = NotFinite
 product k (inf s) = NotFinite
-product k (fin s m e) = fraction s (m * up e * 2 ^ k) (down e)
+product k (fin s m e) = fraction (s && not (eqb m 0)) (m * up e * 2 ^ k) (down e)
 
 -- ---- one field
 abbrev pub inTarget : ℤ → TargetField

@@ -1,4 +1,5 @@
 pub mod Import
 pub mod Export
+pub mod OneField
 pub mod Trip
 pub mod Forms

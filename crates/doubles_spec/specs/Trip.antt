@@ -1,23 +1,12 @@
--- The way back: what importing exported masses gives. Assumes nothing.
-use mathlib.Core.Path.{_≡_}
+-- The way back: calls of Export and their masses. Assumes nothing.
 use Prim.Native.Nat.{ℕ}
 use lib.IntN.{pos}
-use Rattle.numbers.specs.declared.Checked.the-variants.{Pass, Fail}
-use Rattle.doubles_spec.specs.Import.{importVerdict, importUnits, unitsAt}
 use Rattle.doubles_spec.specs.Export.{ExportContract}
 use Rattle.doubles_spec.specs.declared.CellDoubles.{CellDoubles}
 use Rattle.doubles_spec.specs.declared.CellUnits.{CellUnits}
 use Rattle.doubles_spec.specs.declared.Exported.the-variants.{Double}
 
--- ---- one field of a cell
-
--- the cell is not refused for this field, and if it is accepted the field's units are the mass
-pub record Back (mass k : ℕ) (c : CellDoubles) (field : ℕ) : Type 0 where
-  pub notRefused : (number : ℕ) → importVerdict c k ≡ Fail number field → ⊥
-  pub again : importVerdict c k ≡ Pass → unitsAt (importUnits c k) field ≡ pos mass
-
--- ---- calls: a mass for each field
-
+-- a mass for each field
 pub record CellMasses : Type 0 where
   pub target : ℕ
   pub low : ℕ

@@ -37,13 +37,21 @@ pub enum Exported {
     Refused { number: u32, place: u32 },
 }
 
+// For the code alone: what is left after a division.
+pub enum Rest {
+    Nothing,
+    LessThanHalf,
+    Half,
+    MoreThanHalf,
+}
+
 // For the code alone: a double times 2^k. Of a finite one the sign, the whole part of the size (cut at 2^52, which is out of every range)
-// and what is left of it: 0 nothing, 1 less than a half, 2 a half, 3 more.
+// and what is left of it.
 pub enum Product {
     Finite {
         negative: bool,
         whole: u64,
-        rest: u32,
+        rest: Rest,
     },
     NotFinite,
 }

@@ -2,7 +2,6 @@
 use mathlib.Core.Path.{_≡_, sym, ap, _∙_}
 use mathlib.Core.Bool.{Bool, true, false}
 use borrow.Author.Needs.{needs}
-use borrow.Author.Tests.{eq-eqb, ne-eqb}
 use Rattle.doubles_spec.specs.Forms.{highField}
 use Rattle.doubles_spec.specs.declared.Product.the-variants.{Finite}
 use Rattle.doubles_spec.proofs.FieldLaws.{highFrom, high-product}
@@ -28,37 +27,20 @@ arm c s e =
     let v = c .negative .given .0 in
     high-product (z .k) (z .x) ∙ ap highFrom (sym (c .before .before .scaled .ensures) ∙ c .negative .given .1 ∙ ap (λ (b : Bool). Finite b (v .1 .0) (v .1 .1 .0)) e)
 
-returns : tie.Need-returns
-returns c = sym (arm (c .before .before .before .before) true (c .before .before .if1 .taken) ∙ rw (eq-eqb _ _ (c .before .if2 .taken), eq-eqb _ 0 (c .if3 .taken)))
-
-returns-2 : tie.Need-returns-2
-returns-2 c = sym (arm (c .before .before .before .before) true (c .before .before .if1 .taken) ∙ rw (eq-eqb _ _ (c .before .if2 .taken), ne-eqb _ 0 (c .if3 .left)))
-
-returns-3 : tie.Need-returns-3
-returns-3 c = sym (arm (c .before .before .before) true (c .before .if1 .taken) ∙ rw (ne-eqb _ _ (c .if2 .left)))
-
 in-bound-requires : tie.Need-in-bound-requires
 in-bound-requires c κs = search needs
 
 enum-told : tie.Need-enum-told
 enum-told c = search needs
 
-returns-4 : tie.Need-returns-4
-returns-4 c = c .in-bound .ensures ∙ sym (arm (c .before .before .before) false (c .before .if1 .left))
+returns : tie.Need-returns
+returns c = sym (arm (c .before .before) true (c .if1 .taken))
 
-returns-5 : tie.Need-returns-5
-returns-5 c = let z = c .before .before .before .args in sym (high-product (z .k) (z .x) ∙ ap highFrom (sym (c .before .before .scaled .ensures) ∙ c .enum-told .given .1))
+returns-2 : tie.Need-returns-2
+returns-2 c = c .in-bound .ensures ∙ sym (arm (c .before .before .before) false (c .before .if1 .left))
+
+returns-3 : tie.Need-returns-3
+returns-3 c = let z = c .before .before .before .args in sym (high-product (z .k) (z .x) ∙ ap highFrom (sym (c .before .before .scaled .ensures) ∙ c .enum-told .given .1))
 
 pub high-field-spec : {M : Type 1} → statement M
-high-field-spec =
-    tie.close
-    (tie.spec
-    scaled-requires
-    enum-known-negative
-    returns
-    returns-2
-    returns-3
-    in-bound-requires
-    enum-told
-    returns-4
-    returns-5)
+high-field-spec = tie.close (tie.spec scaled-requires enum-known-negative in-bound-requires enum-told returns returns-2 returns-3)

@@ -1,13 +1,15 @@
 -- `doubles::fields::low_field` meets its contract: `scaled` gives the product, and each way through the code is a case of `lowFrom`.
 use mathlib.Core.Path.{_≡_, sym, ap, _∙_}
 use mathlib.Core.Bool.{Bool, true, false, cond}
-use native.Mathlib.Nat.{add-zero}
+use Prim.Native.Nat.{ℕ, _+_}
+use native.Mathlib.Omega.{arith}
+use lib.IntN.{pos}
 use borrow.Author.Needs.{needs}
 use borrow.Author.Tests.{eq-eqb, ne-eqb, le-leb, lt-leb}
-use Rattle.doubles_spec.specs.Forms.{lowField}
+use Rattle.doubles_spec.specs.Forms.{lowField, inBound}
 use Rattle.doubles_spec.specs.declared.Product.the-variants.{Finite}
 use Rattle.doubles_spec.specs.declared.BoundField.{BoundField}
-use Rattle.doubles_spec.proofs.FieldLaws.{lowFrom, low-product}
+use Rattle.doubles_spec.proofs.FieldLaws.{lowFrom, low-product, away-le}
 use Rattle.doubles.proofs.fields.low_field.Statement.{statement}
 use Rattle.doubles.proofs.fields.low_field.Tie as tie
 
@@ -39,30 +41,28 @@ returns-2 c = sym (arm (c .before .before .before) true (c .before .if1 .taken) 
 returns-3 : tie.Need-returns-3
 returns-3 c = sym (arm (c .before .before .before) false (c .before .if1 .left) ∙ rw (le-leb _ _ (c .if3 .taken)))
 
-in-bound-requires : tie.Need-in-bound-requires
-in-bound-requires c κs = search needs
-
-returns-4 : tie.Need-returns-4
-returns-4 c =
-    c .in-bound .ensures
-    ∙ sym (arm (c .before .before .before .before .before) false (c .before .before .before .if1 .left) ∙ rw (lt-leb _ _ (c .before .before .if3 .left), eq-eqb _ _ (c .before .if4 .taken), add-zero))
+added-away-requires : tie.Need-added-away-requires
+added-away-requires c κs = search needs
 
 add-in-bound : tie.Need-add-in-bound
-add-in-bound c = search needs
+add-in-bound c = omega (arith, c .added-away .ensures, away-le (c .before .before .before .before .negative .given .0 .1 .1 .0))
 
-in-bound-requires-2 : tie.Need-in-bound-requires-2
-in-bound-requires-2 c κs = search needs
+in-bound-requires : tie.Need-in-bound-requires
+in-bound-requires c κs = search needs
 
 enum-told : tie.Need-enum-told
 enum-told c = search needs
 
-returns-5 : tie.Need-returns-5
-returns-5 c =
-    c .in-bound2 .ensures
-    ∙ sym (arm (c .before .before .before .before .before) false (c .before .before .before .if1 .left) ∙ rw (lt-leb _ _ (c .before .before .if3 .left), ne-eqb _ _ (c .before .if4 .left)))
+returns-4 : tie.Need-returns-4
+returns-4 c =
+    let d = c .before .before .before .before .before in
+    let w = d .negative .given .0 .1 .0 in
+    c .in-bound .ensures
+    ∙ ap (λ (n : ℕ). inBound (pos (w + n))) (c .before .added-away .ensures)
+    ∙ sym (arm d false (c .before .before .before .if1 .left) ∙ rw (lt-leb _ _ (c .before .before .if3 .left)))
 
-returns-6 : tie.Need-returns-6
-returns-6 c = let z = c .before .before .before .args in sym (low-product (z .k) (z .x) ∙ ap lowFrom (sym (c .before .before .scaled .ensures) ∙ c .enum-told .given .1))
+returns-5 : tie.Need-returns-5
+returns-5 c = let z = c .before .before .before .args in sym (low-product (z .k) (z .x) ∙ ap lowFrom (sym (c .before .before .scaled .ensures) ∙ c .enum-told .given .1))
 
 pub low-field-spec : {M : Type 1} → statement M
 low-field-spec =
@@ -73,10 +73,9 @@ low-field-spec =
     returns
     returns-2
     returns-3
-    in-bound-requires
-    returns-4
+    added-away-requires
     add-in-bound
-    in-bound-requires-2
+    in-bound-requires
     enum-told
-    returns-5
-    returns-6)
+    returns-4
+    returns-5)

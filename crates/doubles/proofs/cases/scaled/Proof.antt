@@ -1,4 +1,4 @@
--- `doubles::fields::scaled` meets its contract: the bits' fields say the double, and each return is what `product` gives at such fields.
+-- `doubles::cases::scaled` meets its contract: the bits' fields say the double, and each return is what `product` gives at such fields.
 use mathlib.Core.Path.{sym, ap, _∙_, subst}
 use Prim.Native.Nat.{ℕ, _%_, _/_, _^_}
 use native.Mathlib.Omega.{arith}
@@ -7,8 +7,8 @@ use lib.Ieee.{Float, binary64, toBits, ofFields, fits}
 use borrow.Author.Needs.{needs}
 use Rattle.doubles_spec.specs.Forms.{product}
 use Rattle.doubles_spec.proofs.Patterns.{zero-fields, subnormal-fields, normal-fields, top-fields, by-fields, no-nan, is-nan}
-use Rattle.doubles.proofs.fields.scaled.Statement.{statement}
-use Rattle.doubles.proofs.fields.scaled.Tie as tie
+use Rattle.doubles.proofs.cases.scaled.Statement.{statement}
+use Rattle.doubles.proofs.cases.scaled.Tie as tie
 
 held : (c : tie.Start) → T (fits binary64 (c .args .x))
 held c = subst T (sym (c .good .0 .1)) tt
@@ -16,14 +16,14 @@ held c = subst T (sym (c .good .0 .1)) tt
 float-to-bits-bits : tie.Need-float-to-bits-bits
 float-to-bits-bits c = no-nan (c .before .args .x) (c .if1 .taken)
 
-add-normal : tie.Need-add-normal
-add-normal c = search needs
+add-digits-at : tie.Need-add-digits-at
+add-digits-at c = search needs
 
-add-normal-2 : tie.Need-add-normal-2
-add-normal-2 c = search needs
+add-digits-at-2 : tie.Need-add-digits-at-2
+add-digits-at-2 c = search needs
 
-normal-requires : tie.Need-normal-requires
-normal-requires c κs = search needs
+digits-at-requires : tie.Need-digits-at-requires
+digits-at-requires c κs = search needs
 
 returns : tie.Need-returns
 returns c =
@@ -52,7 +52,7 @@ returns-3 c =
     let k = z .args .k in
     let b = toBits binary64 (z .args .x) in
     let s = leb (2 ^ 63) b in
-    c .normal .ensures
+    c .digits-at .ensures
     ∙ sym (ap (λ (x : Float). product k x) (by-fields binary64 (z .args .x) (held z)) ∙ normal-fields k s (b % 2 ^ 63 / 2 ^ 52) (b % 2 ^ 52) (c .before .before .if2 .left) (omega arith))
 
 returns-4 : tie.Need-returns-4
@@ -71,9 +71,9 @@ scaled-spec =
     tie.close
     (tie.spec
     float-to-bits-bits
-    add-normal
-    add-normal-2
-    normal-requires
+    add-digits-at
+    add-digits-at-2
+    digits-at-requires
     returns
     returns-2
     returns-3

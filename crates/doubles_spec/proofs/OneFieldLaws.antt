@@ -1,0 +1,150 @@
+-- What one field of a cell gives by its own double alone: units, if that double is finite and in range when rounded, and else a refusal.
+-- Assumes nothing.
+use mathlib.Core.Path.{_≡_, refl, sym, _∙_, subst}
+use mathlib.Core.Logic.{_⊎_, inl, inr, ⊎-elim}
+use mathlib.Core.List.{List, [], _∷_}
+use Prim.Native.Nat.{ℕ, zero, suc, _≤_, _<_}
+use native.Mathlib.Nat.{le-refl}
+use native.Mathlib.Omega.{arith}
+use lib.IntN.{ℤ, pos, negsuc}
+use Rattle.numbers.specs.Signed.{over}
+use Rattle.numbers.specs.Checks.{Rule, ruleFor, Holds, Broken}
+use Rattle.numbers.specs.declared.Checked.the-variants.{Fail}
+use Rattle.doubles_spec.specs.Import.{IsFinite, lowUnits, highUnits, importVerdict, BoundRange, importRules, doubleAt, unitsAt, importUnits}
+use Rattle.doubles_spec.specs.OneField.{fieldUnits, FieldRange, Gives, Refuses}
+use Rattle.doubles_spec.specs.declared.CellDoubles.{CellDoubles}
+use Rattle.doubles_spec.proofs.ImportLaws.{import-decides, import-refuses}
+
+-- ---- rules of which none is broken at a place
+
+abbrev Safe : List Rule → ℕ → Type 0
+Safe [] place = Unit
+Safe (r ∷ rs) place = (r .fault place → ⊥) × Safe rs place
+
+unbroken : (rs : List Rule) (place : ℕ) → Safe rs place → (number : ℕ) → Broken rs number place → ⊥
+unfolding Broken
+unbroken [] place s number h = h
+unbroken (r ∷ rs) place s number h = ⊎-elim (λ f. s .0 (f .1)) (λ g. unbroken rs place (s .1) number (g .1)) h
+
+-- one fact: it holds if this is its place
+fact-safe : {place field : ℕ} {P : Type 0} → (place ≡ field → P) → (field ≡ place) × (P → ⊥) → ⊥
+fact-safe h b = b .1 (h (sym (b .0)))
+
+-- ---- rules of which one is broken, and those before it only at places before a field, or with this number there
+
+abbrev Bears : ℕ → ℕ → Rule → Type 0
+Bears field number r = (place : ℕ) → r .fault place → (place ≤ field) × (place ≡ field → r .number ≡ number)
+
+abbrev Stops : ℕ → ℕ → List Rule → Type 0
+Stops field number [] = ⊥
+Stops field number (r ∷ rs) = Bears field number r × ((r .fact → ⊥) ⊎ Stops field number rs)
+
+stops-there : (field number : ℕ) (rs : List Rule) → Stops field number rs → (n place : ℕ) → Broken rs n place → (place ≤ field) × (place ≡ field → n ≡ number)
+unfolding Broken
+stops-there field number [] s n place h = absurd s
+stops-there field number (r ∷ rs) s n place h =
+    ⊎-elim
+    (λ f. let b = s .0 place (f .1) in (b .0, λ e. f .0 ∙ b .1 e))
+    (λ g. ⊎-elim (λ out. absurd (out (g .0))) (λ t. stops-there field number rs t n place (g .1)) (s .1))
+    h
+
+stops-some : (field number : ℕ) (rs : List Rule) → Stops field number rs → Holds rs → ⊥
+unfolding Holds
+stops-some field number [] s h = s
+stops-some field number (r ∷ rs) s h = ⊎-elim (λ out. out (h .0)) (λ t. stops-some field number rs t (h .1)) (s .1)
+
+-- one fact, that holds or is of an earlier place
+bears-none : {field number n place : ℕ} {P : Type 0} → P → Bears field number (ruleFor n place P)
+bears-none p q f = absurd (f .1 p)
+
+bears-earlier : {field number n place : ℕ} {P : Type 0} → place < field → Bears field number (ruleFor n place P)
+bears-earlier {field} {number} {n} {place} l q f = (le f, λ e. absurd (apart f e))
+  where
+    le : {P : Type 0} → (q ≡ place) × (P → ⊥) → q ≤ field
+    le f = omega (arith, f .0)
+
+    apart : {P : Type 0} → (q ≡ place) × (P → ⊥) → q ≡ field → ⊥
+    apart f e = omega (arith, f .0)
+
+bears-here : {field number : ℕ} {P : Type 0} → Bears field number (ruleFor number field P)
+bears-here {field} q f = (subst (λ p. p ≤ field) (sym (f .0)) (le-refl field), λ e. refl)
+
+-- ---- the cell
+
+-- units in a bound's range are a natural number
+bound-is : (z : ℤ) → BoundRange z → pos (over z) ≡ z
+bound-is (pos n) h = refl
+bound-is (negsuc n) h = absurd (h .0 .le)
+
+-- in range, a field's units are its double rounded
+units-are : (c : CellDoubles) (k field : ℕ) → IsFinite (doubleAt c field) → FieldRange field (fieldUnits field k (doubleAt c field)) → unitsAt (importUnits c k) field ≡ fieldUnits field k (doubleAt c field)
+unfolding importUnits
+units-are c k zero f r = refl
+units-are c k (suc zero) f r = bound-is (lowUnits k (c .low)) r
+units-are c k (suc (suc zero)) f r = bound-is (highUnits k (c .high)) r
+units-are c k (suc (suc (suc zero))) f r = bound-is (lowUnits k (c .«safe_low»)) r
+units-are c k (suc (suc (suc (suc zero)))) f r = bound-is (highUnits k (c .«safe_high»)) r
+units-are c k (suc (suc (suc (suc (suc field))))) f r = absurd f
+
+module _ (c : CellDoubles) (k field : ℕ) (scale : k ≤ 30) (finite : IsFinite (doubleAt c field)) where
+  abbrev Range : Type 0
+  Range = FieldRange field (fieldUnits field k (doubleAt c field))
+
+  -- ---- in range
+  module _ (range : Range) where
+    -- what holds of this field, at its place
+    at-place : {place : ℕ} → place ≡ field → IsFinite (doubleAt c place) × FieldRange place (fieldUnits place k (doubleAt c place))
+    at-place q = subst (λ f. IsFinite (doubleAt c f) × FieldRange f (fieldUnits f k (doubleAt c f))) (sym q) (finite, range)
+
+    -- the two rules of a place, before others
+    two-safe : (place : ℕ) {S : Type 0} → S
+        → ((field ≡ place) × (IsFinite (doubleAt c place) → ⊥) → ⊥) × (((field ≡ place) × (FieldRange place (fieldUnits place k (doubleAt c place)) → ⊥) → ⊥) × S)
+    two-safe place s = (fact-safe (λ q. at-place q .0), (fact-safe (λ q. at-place q .1), s))
+
+    rules-safe : Safe (importRules c k) field
+    unfolding importRules
+    rules-safe = (fact-safe (λ q. scale), two-safe 0 (two-safe 1 (two-safe 2 (two-safe 3 (two-safe 4 tt)))))
+
+    pub field-gives : Gives c k field (fieldUnits field k (doubleAt c field))
+    field-gives =
+        record {
+          notRefused = λ number v. unbroken (importRules c k) field rules-safe number (import-refuses c k number field .0 v);
+          units = λ v. units-are c k field finite range;
+        }
+
+-- ---- out of range
+module _ (c : CellDoubles) (k : ℕ) (scale : k ≤ 30) where
+  abbrev Finite : ℕ → Type 0
+  Finite place = IsFinite (doubleAt c place)
+
+  abbrev InRange : ℕ → Type 0
+  InRange place = FieldRange place (fieldUnits place k (doubleAt c place))
+
+  -- the two rules of a place before others, if the place is an earlier one and if it is this one
+  abbrev Two : ℕ → ℕ → Type 0 → Type 0
+  Two field place S = Bears field 11 (ruleFor 10 place (Finite place)) × ((Finite place → ⊥) ⊎ (Bears field 11 (ruleFor 11 place (InRange place)) × ((InRange place → ⊥) ⊎ S)))
+
+  two-earlier : {field : ℕ} {S : Type 0} (place : ℕ) → place < field → S → Two field place S
+  two-earlier place l s = (bears-earlier l, inr (bears-earlier l, inr s))
+
+  two-here : {S : Type 0} (field : ℕ) → Finite field → (InRange field → ⊥) → Two field field S
+  two-here field f out = (bears-none f, inr (bears-here, inl out))
+
+  rules-stop : (field : ℕ) → Finite field → (InRange field → ⊥) → Stops field 11 (importRules c k)
+  unfolding importRules
+  rules-stop zero f out = (bears-none scale, inr (two-here 0 f out))
+  rules-stop (suc zero) f out = (bears-none scale, inr (two-earlier 0 (omega arith) (two-here 1 f out)))
+  rules-stop (suc (suc zero)) f out = (bears-none scale, inr (two-earlier 0 (omega arith) (two-earlier 1 (omega arith) (two-here 2 f out))))
+  rules-stop (suc (suc (suc zero))) f out = (bears-none scale, inr (two-earlier 0 (omega arith) (two-earlier 1 (omega arith) (two-earlier 2 (omega arith) (two-here 3 f out)))))
+  rules-stop (suc (suc (suc (suc zero)))) f out = (bears-none scale, inr (two-earlier 0 (omega arith) (two-earlier 1 (omega arith) (two-earlier 2 (omega arith) (two-earlier 3 (omega arith) (two-here 4 f out))))))
+  rules-stop (suc (suc (suc (suc (suc field))))) f out = absurd f
+
+  pub field-refuses : (field : ℕ) → IsFinite (doubleAt c field) → (FieldRange field (fieldUnits field k (doubleAt c field)) → ⊥) → Refuses c k field 11
+  field-refuses field f out =
+      let s = rules-stop field f out in
+      let there : (n place : ℕ) → importVerdict c k ≡ Fail n place → (place ≤ field) × (place ≡ field → n ≡ 11) = λ n place v. stops-there field 11 (importRules c k) s n place (import-refuses c k n place .0 v) in
+      record {
+        notAccepted = λ v. stops-some field 11 (importRules c k) s (import-decides c k .passes .0 v);
+        notLater = λ n place v. there n place v .0;
+        here = λ n v. there n field v .1 refl;
+      }
