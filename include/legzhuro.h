@@ -121,8 +121,10 @@ uint64_t legzhuro_step(uint32_t total, uint32_t *kept, size_t kept_len, int32_t 
                        uint64_t *answer, size_t answer_len);
 
 /* Turns a cell's doubles into whole units of 2^-scale, for a scale of 0 to 30: each times 2^scale exactly, then the target to nearest with
- * ties to even, the lows up, the highs down. Minus zero is 0. units[0] to units[4] are target (-2147483648 to 2147483647), low, high, safe low and
- * safe high (0 to 2147483647); later entries are left alone.
+ * ties to even, the lows up, the highs down. Minus zero is 0. units[0] to units[4] are target (-2147483648 to 2147483647), low, high, safe
+ * low and safe high (0 to 2147483647); later entries are left alone.
+ * By the class of a double in IEEE 754, at every scale: a zero gives 0; a subnormal 1 as either low if above zero, refusal 11 as either high
+ * if below, and otherwise 0; infinity and what is not a number are refused with 10.
  * Refusals: 3 (`units` has fewer than five entries), 9, then 10 and 11 field by field (place: the field, 0 to 4); the double refused is the
  * argument of that field. */
 uint64_t legzhuro_import(double target, double low, double high, double safe_low, double safe_high, uint32_t scale, int64_t *units,

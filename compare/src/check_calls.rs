@@ -2,12 +2,14 @@
 //! lent list at exit, entry by entry.
 
 use crate::calls;
+use crate::doubles::MAX_SCALE;
 use crate::from_c::{self, returned};
 use crate::operations::{Refusal, LIMIT};
 use crate::random::{self, Random};
 use crate::shared::shared_by_masses;
 use crate::tally::Tally;
 use crate::tree::{Field, Workspace};
+use std::num::FpCategory;
 
 /// How often inputs are broken: mostly not, and rarely in several ways at once, so that the order of the checks shows.
 pub fn breaks(random: &mut Random) -> u64 {
@@ -394,6 +396,56 @@ pub fn imports(tally: &mut Tally, random: &mut Random, count: u64) {
         let units = any_bits(random, length, |bits| bits as i64);
         let (result, _) = compare_import(tally, doubles, scale, &units);
         tally.answer(&result);
+    }
+}
+
+/// What ticket 4 of 02 says that a field gives by the class of its double alone, whatever the scale: units, or a refusal's number. Of a
+/// normal double it says nothing.
+fn by_class(double: f64, field: usize) -> Option<Result<i64, u32>> {
+    let (low, high) = (field == 1 || field == 3, field == 2 || field == 4);
+    match double.classify() {
+        FpCategory::Zero => Some(Ok(0)),
+        FpCategory::Subnormal if low && double > 0.0 => Some(Ok(1)),
+        FpCategory::Subnormal if high && double < 0.0 => Some(Err(11)),
+        FpCategory::Subnormal => Some(Ok(0)),
+        FpCategory::Normal => None,
+        FpCategory::Infinite | FpCategory::Nan => Some(Err(10)),
+    }
+}
+
+/// Imports a cell that holds a double in a field and zeros beside it.
+fn import_class(tally: &mut Tally, double: f64, field: usize, scale: u32) {
+    let mut doubles = [0.0; 5];
+    doubles[field] = double;
+    let (result, units) = compare_import(tally, doubles, scale, &[-9; 5]);
+    tally.answer(&result);
+    let given = match result {
+        Ok(()) => Ok(units[field]),
+        Err(refusal) => Err(refusal.number),
+    };
+    let wanted = by_class(double, field).unwrap_or(given);
+    if given != wanted {
+        tally.difference(format!("import {double:e} in field {field} scale {scale}: {given:?}, by its class {wanted:?}"));
+    }
+}
+
+/// The five classes: doubles at both ends of each in every field at every scale, then any of each.
+pub fn classes(tally: &mut Tally, random: &mut Random, count: u64) {
+    let (normal, infinity) = (1 << 52, 0x7ff << 52);
+    let ends = [0, 1, normal - 1, normal, infinity - 1, infinity, infinity + 1, (1 << 63) - 1];
+    for scale in 0..=MAX_SCALE {
+        for field in 0..5 {
+            for end in ends.iter().flat_map(|&end| [end, end | 1 << 63]) {
+                import_class(tally, f64::from_bits(end), field, scale);
+            }
+        }
+    }
+    for _ in 0..count {
+        let fraction = random.bits() & (normal - 1);
+        let any = random.below(0x800);
+        let exponent = random.pick(&[0, 0, 0, 1, 2, 0x7fe, 0x7ff, any]);
+        let double = f64::from_bits(random.below(2) << 63 | exponent << 52 | fraction >> random.below(53));
+        import_class(tally, double, random.index(5), random.below(u64::from(MAX_SCALE) + 1) as u32);
     }
 }
 

@@ -3,7 +3,7 @@
 
 use crate::operations::{refuse, Refusal, LIMIT};
 
-const MAX_SCALE: u32 = 30;
+pub const MAX_SCALE: u32 = 30;
 
 /// How a field is rounded.
 #[derive(Clone, Copy, PartialEq)]

@@ -26,6 +26,8 @@ const WRITE_FIELD: [usize; 3] = [1, 2, 3];
 const READ_ANSWER: [usize; 6] = [14, 15, 16, 1, 3, 12];
 // Whole fields, written, repaired and their answers read: those of Reconstruct alone.
 const ROUND_TRIP: [usize; 5] = [4, 5, 6, 7, 8];
+// Import of one double, at scales in range.
+const CLASSES: [usize; 2] = [10, 11];
 // Those of 01's examples.
 const EXAMPLES: [usize; 3] = [4, 8, 11];
 // Steps by valid fields to any total, and splits with nothing broken.
@@ -71,6 +73,8 @@ fn main() {
     tally.end_part("read answer", &READ_ANSWER, &OUTCOMES);
     check_files::round_trips(&mut tally, &mut random, scaled(100_000));
     tally.end_part("field to answer", &ROUND_TRIP, &OUTCOMES);
+    check_calls::classes(&mut tally, &mut random, scaled(200_000));
+    tally.end_part("import by class", &CLASSES, &[]);
 
     if !tally.passes() {
         std::process::exit(1);

@@ -1,5 +1,5 @@
-// The operations Import and Export. Public: `import`, `export`; the work below them is in a module of its own, for this crate alone. Relies
-// on `doubles_spec` and `numbers`.
+// The operations Import and Export. Public: `import`, `export`. Below them, for this crate alone: a double by the cases of IEEE 754 (`cases`),
+// what it gives in a field (`fields`), powers of two as doubles (`power`). Relies on `doubles_spec` and `numbers`.
 ghost use mathlib.Core.Path.{_≡_};
 ghost use Rattle.doubles_spec.specs.declared.Imported.the-variants.{Refused};
 ghost use Rattle.doubles_spec.specs.Import.{ImportContract};

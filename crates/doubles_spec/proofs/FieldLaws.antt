@@ -1,6 +1,6 @@
 -- The three roundings, each from what `product` gives: the sign, the whole part cut at 2 ^ 52, and what is left. Assumes nothing.
 use mathlib.Core.Path.{_≡_, refl, sym, ap, _∙_, subst}
-use mathlib.Core.Bool.{Bool, true, false, not, _&&_, cond}
+use mathlib.Core.Bool.{Bool, true, false, not, cond}
 use Prim.Native.Nat.{ℕ, zero, suc, _+_, _-_, _*_, _/_, _%_, _^_, _≤_, _<_, min, compare, Ordering, Ordering·lt, Ordering·eq, Ordering·gt}
 use mir.Syntax.{w32}
 use mir.Val.{SFits, toZ, ofZ}
@@ -9,7 +9,7 @@ use native.Mathlib.Nat.{add-zero, zero-mul, mul-div-cancel, mul-mod-left, mul-po
 use native.Mathlib.Numerals.{add-one}
 use native.Mathlib.Omega.{arith}
 use lib.IntN.{ℤ, pos, negsuc, _-ℤ_}
-use lib.Dec.{T, leb, ltb, eqb, eqb→eq, eqb·suc-zero}
+use lib.Dec.{T, leb, ltb, eqb, eqb→eq}
 use lib.Pow.{pow-pos}
 use lib.Ieee.{Float, nan, inf, fin, up, down, nearest}
 use lib.Ieee.Fits.{up-pos, down-pos}
@@ -24,6 +24,7 @@ use Rattle.doubles_spec.specs.declared.Product.the-variants.{Finite, Not
 use Rattle.doubles_spec.specs.declared.BoundField.{BoundField}
 use Rattle.doubles_spec.specs.declared.TargetField.{TargetField}
 use Rattle.numbers.proofs.TestLaws.{Tested, holds, fails, tested, compare-is}
+use Rattle.doubles_spec.proofs.Patterns.{zero-sign, other-sign}
 
 -- ---- the roundings of a product
 abbrev pub lowFrom : Product → BoundField
@@ -109,35 +110,27 @@ pub down-whole : KeepsWhole roundDown
 down-whole false n b B = ap pos (mul-div-cancel n B)
 down-whole true n b B = ap (signed true) (ceiling-whole n b B)
 
+-- zero is rounded to 0, whatever its sign
+pub no-sign : (s : Bool) → signed s 0 ≡ pos 0
+no-sign true = refl
+no-sign false = refl
+
+pub zero-whole : (rounding : Bool → ℕ → ℕ → ℤ) → KeepsWhole rounding → (s : Bool) (b : ℕ) → 0 < b → rounding s 0 b ≡ pos 0
+zero-whole rounding whole s b B = ap (λ (a : ℕ). rounding s a b) (sym (zero-mul b)) ∙ whole s 0 b B ∙ no-sign s
+
 -- ---- a field by its product, if its rounding is what `from` says of a fraction that is not minus zero
 module _ {F : Type 0} (inRange : ℤ → F) (rounding : Bool → ℕ → ℕ → ℤ) (from : Product → F) (whole : KeepsWhole rounding) (rounds : (s : Bool) (a b : ℕ) → (T s → 0 < a) → 0 < b → inRange (rounding s a b) ≡ from (fraction s a b)) where
-  -- minus zero is rounded as zero
-  no-sign : (s : Bool) (b : ℕ) → 0 < b → rounding s 0 b ≡ rounding false 0 b
-  no-sign false b B = refl
-  no-sign true b B = ap (λ (a : ℕ). rounding true a b) (sym (zero-mul b)) ∙ whole true 0 b B ∙ sym (whole false 0 b B) ∙ ap (λ (a : ℕ). rounding false a b) (zero-mul b)
-
-  at-zero : (s : Bool) (a b : ℕ) → 0 < b → a ≡ 0 → inRange (rounding s a b) ≡ from (fraction (s && false) a b)
-  at-zero s a b B e = rw e (ap inRange (no-sign s b B) ∙ rounds false 0 b (λ t. absurd t) B ∙ ap (λ (t : Bool). from (fraction t 0 b)) (sym (never s)))
-    where
-      never : (t : Bool) → t && false ≡ false
-      never true = refl
-      never false = refl
-
-  past-zero : (s : Bool) (a b : ℕ) → 0 < b → 0 < a → inRange (rounding s a b) ≡ from (fraction (s && true) a b)
-  past-zero s a b B A = rounds s a b (λ t. A) B ∙ ap (λ (t : Bool). from (fraction t a b)) (sym (always s))
-    where
-      always : (t : Bool) → t && true ≡ t
-      always true = refl
-      always false = refl
-
   by-product : (k : ℕ) (x : Float) → fieldBy (from NotFinite) inRange rounding k x ≡ from (product k x)
   by-product k nan = refl
   by-product k (inf s) = refl
-  by-product k (fin s zero e) = at-zero s (0 * up e * 2 ^ k) (down e) (down-pos e) (ap (λ (n : ℕ). n * 2 ^ k) (zero-mul (up e)) ∙ zero-mul (2 ^ k))
+  by-product k (fin s zero e) =
+      let b = down e in
+      let none : 0 * up e * 2 ^ k ≡ 0 = ap (λ (n : ℕ). n * 2 ^ k) (zero-mul (up e)) ∙ zero-mul (2 ^ k) in
+      rw (none, zero-sign s e) (ap inRange (zero-whole rounding whole s b (down-pos e) ∙ sym (zero-whole rounding whole false b (down-pos e))) ∙ rounds false 0 b (λ t. absurd t) (down-pos e))
   by-product k (fin s (suc m) e) =
       let a = suc m * up e * 2 ^ k in
-      past-zero s a (down e) (down-pos e) (mul-pos (mul-pos (zero-lt-suc m) (up-pos e)) (pow-pos k))
-      ∙ ap (λ (b : Bool). from (fraction (s && not b) a (down e))) (sym (eqb·suc-zero m))
+      rounds s a (down e) (λ t. mul-pos (mul-pos (zero-lt-suc m) (up-pos e)) (pow-pos k)) (down-pos e)
+      ∙ ap (λ (t : Bool). from (fraction t a (down e))) (sym (other-sign s (suc m) e (zero-lt-suc m)))
 
 -- ---- the bounds
 past-bound : (q : ℕ) → 2 ^ 31 ≤ q → inBound (pos q) ≡ BoundField.Bad 11

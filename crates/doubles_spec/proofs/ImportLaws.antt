@@ -26,6 +26,7 @@ use Rattle.doubles_spec.specs.declared.Imported.{Imported}
 use Rattle.doubles_spec.specs.declared.Imported.the-variants.{Units, BadScale, Refused}
 use Rattle.doubles_spec.specs.declared.TargetField.{TargetField}
 use Rattle.doubles_spec.specs.declared.BoundField.{BoundField}
+use Rattle.doubles_spec.proofs.Patterns.{and-true}
 
 -- ---- each check
 
@@ -129,10 +130,6 @@ field-by units inRange bad good h rounding k (fin s m e) = h (scaled rounding k 
 -- below 2 ^ 31 is at most 2 ^ 31 - 1
 below : (n : ℕ) → ltb n (2 ^ 31) ≡ leb n maxTotal
 below n = leb·suc-suc n maxTotal
-
-and-true : (b : Bool) → b && true ≡ b
-and-true true = refl
-and-true false = refl
 
 in-target : (z : ℤ) → inTarget z ≡ cond (inside (negsuc maxTotal) z) (TargetField.Units z) (TargetField.Bad 11)
 in-target (pos n) = ap (λ b. cond b (TargetField.Units (pos n)) (TargetField.Bad 11)) (below n)

@@ -1,9 +1,12 @@
 pub mod Fractions
 pub mod Powers
 pub mod Patterns
+pub mod ClassLaws
+pub mod CaseLaws
 pub mod FieldLaws
 pub mod RoundingLaws
 pub mod ImportLaws
 pub mod OneFieldLaws
+pub mod SmallLaws
 pub mod ExportLaws
 pub mod TripLaws

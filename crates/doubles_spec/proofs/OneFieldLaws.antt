@@ -7,10 +7,12 @@ use Prim.Native.Nat.{ℕ, zero, suc, _≤_, _<_}
 use native.Mathlib.Nat.{le-refl}
 use native.Mathlib.Omega.{arith}
 use lib.IntN.{ℤ, pos, negsuc}
+use lib.Ieee.{Float}
 use Rattle.numbers.specs.Signed.{over}
-use Rattle.numbers.specs.Checks.{Rule, ruleFor, Holds, Broken}
+use Rattle.numbers.specs.Checks.{Rule, ruleFor, Holds, Broken, maxTotal}
+use Rattle.numbers.proofs.SignedLaws.{parts-le}
 use Rattle.numbers.specs.declared.Checked.the-variants.{Fail}
-use Rattle.doubles_spec.specs.Import.{IsFinite, lowUnits, highUnits, importVerdict, BoundRange, importRules, doubleAt, unitsAt, importUnits}
+use Rattle.doubles_spec.specs.Import.{IsFinite, targetUnits, lowUnits, highUnits, importVerdict, BoundRange, importRules, doubleAt, unitsAt, importUnits}
 use Rattle.doubles_spec.specs.OneField.{fieldUnits, FieldRange, Gives, Refuses}
 use Rattle.doubles_spec.specs.declared.CellDoubles.{CellDoubles}
 use Rattle.doubles_spec.proofs.ImportLaws.{import-decides, import-refuses}
@@ -111,6 +113,33 @@ module _ (c : CellDoubles) (k field : ℕ) (scale : k ≤ 30) (finite : IsFinite
           notRefused = λ number v. unbroken (importRules c k) field rules-safe number (import-refuses c k number field .0 v);
           units = λ v. units-are c k field finite range;
         }
+
+-- ---- a whole number in range
+pub whole-range : (field : ℕ) {n : ℕ} → n ≤ maxTotal → FieldRange field (pos n)
+whole-range zero h = (parts-le (omega arith), parts-le (omega arith))
+whole-range (suc field) h = (parts-le (omega arith), parts-le (omega arith))
+
+pub whole-gives : (c : CellDoubles) (k field : ℕ) → k ≤ 30 → IsFinite (doubleAt c field) → {n : ℕ} → n ≤ maxTotal → fieldUnits field k (doubleAt c field) ≡ pos n → Gives c k field (pos n)
+whole-gives c k field K f h e = subst (Gives c k field) e (field-gives c k field K f (subst (FieldRange field) (sym e) (whole-range field h)))
+
+-- a double that every rounding takes to the same number
+pub record RoundsTo (n k : ℕ) (x : Float) : Type 0 where
+  pub finite : IsFinite x
+  pub small : n ≤ maxTotal
+  pub target : targetUnits k x ≡ pos n
+  pub low : lowUnits k x ≡ pos n
+  pub high : highUnits k x ≡ pos n
+
+pub same-gives : (c : CellDoubles) (k field : ℕ) → k ≤ 30 → {n : ℕ} → RoundsTo n k (doubleAt c field) → Gives c k field (pos n)
+same-gives c k field K {n} r = whole-gives c k field K (r .finite) (r .small) (at field r)
+  where
+    at : (field : ℕ) → RoundsTo n k (doubleAt c field) → fieldUnits field k (doubleAt c field) ≡ pos n
+    at zero r = r .target
+    at (suc zero) r = r .low
+    at (suc (suc zero)) r = r .high
+    at (suc (suc (suc zero))) r = r .low
+    at (suc (suc (suc (suc zero)))) r = r .high
+    at (suc (suc (suc (suc (suc field))))) r = absurd (r .finite)
 
 -- ---- out of range
 module _ (c : CellDoubles) (k : ℕ) (scale : k ≤ 30) where

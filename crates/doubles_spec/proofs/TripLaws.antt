@@ -2,19 +2,17 @@
 -- five fields is an exported mass, exactly these units. Assumes nothing.
 use mathlib.Core.Path.{_≡_, refl, sym, ap, _∙_, subst}
 use mathlib.Core.Bool.{Bool, false}
-use Prim.Native.Nat.{ℕ, zero, suc, _*_, _^_, _≤_, _<_}
-use native.Mathlib.Omega.{arith}
+use Prim.Native.Nat.{ℕ, _*_, _^_, _≤_, _<_}
 use lib.IntN.{ℤ, pos}
 use lib.Ieee.{Float, nan, inf, fin, up, down}
 use lib.Ieee.Fits.{down-pos}
 use Rattle.numbers.specs.declared.Checked.the-variants.{Pass}
 use Rattle.numbers.specs.Checks.{maxTotal}
 use Rattle.numbers.specs.Roundings.{roundDown, roundUp, roundNearest}
-use Rattle.numbers.proofs.SignedLaws.{parts-le}
 use Rattle.numbers.proofs.CheckLaws.{answered-accepted}
 use Rattle.doubles_spec.specs.Import.{IsFinite, scaled, targetUnits, lowUnits, highUnits, importVerdict, TargetRange, BoundRange, doubleAt, importUnits, importTells, importHolds, carried, ImportContract}
 use Rattle.doubles_spec.specs.Export.{exportVerdict, ExportFits, exportDouble, exportTells, Exact, ExportContract}
-use Rattle.doubles_spec.specs.OneField.{fieldUnits, FieldRange, Gives}
+use Rattle.doubles_spec.specs.OneField.{Gives}
 use Rattle.doubles_spec.specs.Trip.{CellMasses, ExportedAt, massUnits}
 use Rattle.doubles_spec.specs.declared.CellDoubles.{CellDoubles}
 use Rattle.doubles_spec.specs.declared.Imported.{Imported}
@@ -22,18 +20,10 @@ use Rattle.doubles_spec.specs.declared.Imported.the-variants.{Units}
 use Rattle.doubles_spec.specs.declared.Exported.the-variants.{Double}
 use Rattle.doubles_spec.proofs.FieldLaws.{KeepsWhole, nearest-whole, up-whole, down-whole}
 use Rattle.doubles_spec.proofs.ImportLaws.{import-accepts, import-answer-injective}
-use Rattle.doubles_spec.proofs.OneFieldLaws.{field-gives}
+use Rattle.doubles_spec.proofs.OneFieldLaws.{whole-range, RoundsTo, same-gives}
 use Rattle.doubles_spec.proofs.ExportLaws.{export-accepts, export-exact}
 
 -- ---- one double
-
--- it is finite, and each rounding at the scale k gives the mass, which is in range
-record Again (mass k : ℕ) (x : Float) : Type 0 where
-  finite : IsFinite x
-  small : mass ≤ maxTotal
-  target : targetUnits k x ≡ pos mass
-  low : lowUnits k x ≡ pos mass
-  high : highUnits k x ≡ pos mass
 
 module _ (mass k : ℕ) where
   exact-finite : (x : Float) → Exact mass k x → IsFinite x
@@ -47,7 +37,7 @@ module _ (mass k : ℕ) where
   exact-rounds rounding whole (fin s m e) v =
       ap (λ (t : Bool). rounding t (m * up e * 2 ^ k) (down e)) (v .0) ∙ ap (λ (a : ℕ). rounding false a (down e)) (v .1) ∙ whole false mass (down e) (down-pos e)
 
-  exact-back : mass ≤ maxTotal → (x : Float) → Exact mass k x → Again mass k x
+  exact-back : mass ≤ maxTotal → (x : Float) → Exact mass k x → RoundsTo mass k x
   exact-back s x v =
       record {
         finite = exact-finite x v;
@@ -57,35 +47,12 @@ module _ (mass k : ℕ) where
         high = exact-rounds roundDown down-whole x v;
       }
 
--- what rounds to a mass is in range
-module _ {mass : ℕ} (s : mass ≤ maxTotal) {z : ℤ} (e : z ≡ pos mass) where
-  in-target : TargetRange z
-  in-target = subst TargetRange (sym e) (parts-le (omega arith), parts-le (omega arith))
-
-  in-bound : BoundRange z
-  in-bound = subst BoundRange (sym e) (parts-le (omega arith), parts-le (omega arith))
-
 -- ---- the cell
-
--- in each field
-module _ {mass k : ℕ} {x : Float} (a : Again mass k x) where
-  field-again : (field : ℕ) → field < 5 → fieldUnits field k x ≡ pos mass
-  field-again zero l = a .target
-  field-again (suc zero) l = a .low
-  field-again (suc (suc zero)) l = a .high
-  field-again (suc (suc (suc zero))) l = a .low
-  field-again (suc (suc (suc (suc zero)))) l = a .high
-  field-again (suc (suc (suc (suc (suc field))))) l = absurd (omega arith)
-
-  field-range : (field : ℕ) → field < 5 → FieldRange field (fieldUnits field k x)
-  field-range zero l = in-target (a .small) (field-again 0 l)
-  field-range (suc field) l = in-bound (a .small) (field-again (suc field) l)
 
 -- a cell that holds an exported mass in a field
 pub round-trip : {mass k : ℕ} → ExportFits mass k → (c : CellDoubles) (field : ℕ) → field < 5 → doubleAt c field ≡ exportDouble mass k → Gives c k field (pos mass)
 round-trip {mass} {k} fits c field l e =
-    let a : Again mass k (doubleAt c field) = subst (Again mass k) (sym e) (exact-back mass k (fits .small) (exportDouble mass k) (export-exact fits)) in
-    subst (Gives c k field) (field-again a field l) (field-gives c k field (fits .scale) (a .finite) (field-range a field l))
+    same-gives c k field (fits .scale) (subst (RoundsTo mass k) (sym e) (exact-back mass k (fits .small) (exportDouble mass k) (export-exact fits)))
 
 -- ---- calls
 
@@ -94,9 +61,20 @@ exported-fits : {mass k : ℕ} {x : Float} → ExportContract mass k (Double x) 
 unfolding exportTells
 exported-fits {mass} {k} {x} p = export-accepts mass k .0 (answered-accepted (exportVerdict mass k) x (exportDouble mass k) (p .answers) .0)
 
-exported-back : {mass k : ℕ} {x : Float} → ExportContract mass k (Double x) → Again mass k x
+exported-back : {mass k : ℕ} {x : Float} → ExportContract mass k (Double x) → RoundsTo mass k x
 unfolding exportTells
 exported-back {mass} {k} {x} p = exact-back mass k (exported-fits p .small) x (p .exact x refl)
+
+-- what rounds to a mass is in range
+module _ {mass k : ℕ} {x : Float} (r : RoundsTo mass k x) where
+  in-target : TargetRange (targetUnits k x)
+  in-target = subst TargetRange (sym (r .target)) (whole-range 0 (r .small))
+
+  in-low : BoundRange (lowUnits k x)
+  in-low = subst BoundRange (sym (r .low)) (whole-range 1 (r .small))
+
+  in-high : BoundRange (highUnits k x)
+  in-high = subst BoundRange (sym (r .high)) (whole-range 1 (r .small))
 
 module _ {k : ℕ} {m : CellMasses} {c : CellDoubles} (p : ExportedAt k m c) where
   import-passes : importVerdict c k ≡ Pass
@@ -110,15 +88,15 @@ module _ {k : ℕ} {m : CellMasses} {c : CellDoubles} (p : ExportedAt k m c) whe
       (record {
         scale = exported-fits (p .target) .scale;
         targetFinite = t .finite;
-        target = in-target (t .small) (t .target);
+        target = in-target t;
         lowFinite = l .finite;
-        low = in-bound (l .small) (l .low);
+        low = in-low l;
         highFinite = h .finite;
-        high = in-bound (h .small) (h .high);
+        high = in-high h;
         safeLowFinite = sl .finite;
-        safeLow = in-bound (sl .small) (sl .low);
+        safeLow = in-low sl;
         safeHighFinite = sh .finite;
-        safeHigh = in-bound (sh .small) (sh .high);
+        safeHigh = in-high sh;
       })
 
   import-gives : importUnits c k ≡ massUnits m

@@ -1,10 +1,11 @@
 -- The forms of Import that the code follows, field by field; laws in proofs/ say that they give what the definitions of Import give. Assumes nothing.
-use mathlib.Core.Bool.{Bool, true, false, not, _&&_, cond}
+use mathlib.Core.Bool.{Bool, true, false, cond}
 use Prim.Native.Nat.{ℕ, _*_, _/_, _%_, _^_, min, compare, Ordering, Ordering·lt, Ordering·eq, Ordering·gt}
 use lib.IntN.{ℤ, pos, negsuc}
 use lib.Dec.{leb, ltb, eqb}
 use lib.Ieee.{Float, nan, inf, fin, up, down}
 use Rattle.doubles_spec.specs.Import.{scaled}
+use Rattle.doubles_spec.specs.Classes.{isBelowZero}
 use Rattle.numbers.specs.Roundings.{roundNearest, roundUp, roundDown}
 use Rattle.doubles_spec.specs.declared.CellDoubles.{CellDoubles}
 use Rattle.doubles_spec.specs.declared.Imported.{Imported}
@@ -46,11 +47,11 @@ addedNearest whole MoreThanHalf = 1
 abbrev pub fraction : Bool → ℕ → ℕ → Product
 fraction s a b = Finite s (min (a / b) (2 ^ 52)) (restOf a b)
 
--- minus zero is 0: the sign is minus below zero alone
+-- minus zero is 0: it has no sign
 abbrev pub product : ℕ → Float → Product
 product k nan = NotFinite
 product k (inf s) = NotFinite
-product k (fin s m e) = fraction (s && not (eqb m 0)) (m * up e * 2 ^ k) (down e)
+product k (fin s m e) = fraction (isBelowZero (fin s m e)) (m * up e * 2 ^ k) (down e)
 
 -- ---- one field
 abbrev pub inTarget : ℤ → TargetField

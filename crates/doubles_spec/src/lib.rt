@@ -1,6 +1,6 @@
-// Import and Export: doubles to units and units to doubles by IEEE 754. What the operations check and answer, the forms that the code
-// follows, and the laws. Definitions (specs/) and laws (proofs/) alone; the code is in the crate `doubles`. Relies on `numbers`, where
-// the roundings stand.
+// Import and Export: doubles to units and units to doubles by IEEE 754. What the operations check and answer, the five classes of a double,
+// the forms that the code follows, and the laws. Definitions (specs/) and laws (proofs/) alone; the code is in the crate `doubles`. Relies
+// on `numbers`, where the roundings stand.
 
 // The five doubles of a cell.
 pub struct CellDoubles {
@@ -35,6 +35,15 @@ pub enum Imported {
 pub enum Exported {
     Double(f64),
     Refused { number: u32, place: u32 },
+}
+
+// The five classes of a double by IEEE 754, in the order of 02 (ticket 4).
+pub enum Class {
+    Zero,
+    Subnormal,
+    Normal,
+    Infinity,
+    NotANumber,
 }
 
 // For the code alone: what is left after a division.
