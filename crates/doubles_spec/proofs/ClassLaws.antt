@@ -58,7 +58,7 @@ value-one (inf s) = (Infinity, (refl, λ d h. h))
 value-one nan = (NotANumber, (refl, λ d h. h))
 
 -- the classes in their order; the first three are finite
-abbrev place : Class → ℕ
+abbrev pub place : Class → ℕ
 place Zero = 0
 place Subnormal = 1
 place Normal = 2

@@ -78,8 +78,15 @@ bound-is : (z : ℤ) → BoundRange z → pos (over z) ≡ z
 bound-is (pos n) h = refl
 bound-is (negsuc n) h = absurd (h .0 .le)
 
+-- the two facts of a field
+abbrev pub FiniteAt : CellDoubles → ℕ → Type 0
+FiniteAt c field = IsFinite (doubleAt c field)
+
+abbrev pub RangeAt : CellDoubles → ℕ → ℕ → Type 0
+RangeAt c k field = FieldRange field (fieldUnits field k (doubleAt c field))
+
 -- in range, a field's units are its double rounded
-units-are : (c : CellDoubles) (k field : ℕ) → IsFinite (doubleAt c field) → FieldRange field (fieldUnits field k (doubleAt c field)) → unitsAt (importUnits c k) field ≡ fieldUnits field k (doubleAt c field)
+units-are : (c : CellDoubles) (k field : ℕ) → FiniteAt c field → RangeAt c k field → unitsAt (importUnits c k) field ≡ fieldUnits field k (doubleAt c field)
 unfolding importUnits
 units-are c k zero f r = refl
 units-are c k (suc zero) f r = bound-is (lowUnits k (c .low)) r
@@ -88,38 +95,33 @@ units-are c k (suc (suc (suc zero))) f r = bound-is (lowUnits k (c .«safe_low»
 units-are c k (suc (suc (suc (suc zero)))) f r = bound-is (highUnits k (c .«safe_high»)) r
 units-are c k (suc (suc (suc (suc (suc field))))) f r = absurd f
 
-module _ (c : CellDoubles) (k field : ℕ) (scale : k ≤ 30) (finite : IsFinite (doubleAt c field)) where
-  abbrev Range : Type 0
-  Range = FieldRange field (fieldUnits field k (doubleAt c field))
+-- ---- in range
+module _ (c : CellDoubles) (k field : ℕ) (scale : k ≤ 30) (finite : FiniteAt c field) (range : RangeAt c k field) where
+  -- what holds of this field, at its place
+  at-place : {place : ℕ} → place ≡ field → FiniteAt c place × RangeAt c k place
+  at-place q = subst (λ f. FiniteAt c f × RangeAt c k f) (sym q) (finite, range)
 
-  -- ---- in range
-  module _ (range : Range) where
-    -- what holds of this field, at its place
-    at-place : {place : ℕ} → place ≡ field → IsFinite (doubleAt c place) × FieldRange place (fieldUnits place k (doubleAt c place))
-    at-place q = subst (λ f. IsFinite (doubleAt c f) × FieldRange f (fieldUnits f k (doubleAt c f))) (sym q) (finite, range)
+  -- the two rules of a place, before others
+  two-safe : (place : ℕ) {S : Type 0} → S → ((field ≡ place) × (FiniteAt c place → ⊥) → ⊥) × (((field ≡ place) × (RangeAt c k place → ⊥) → ⊥) × S)
+  two-safe place s = (fact-safe (λ q. at-place q .0), (fact-safe (λ q. at-place q .1), s))
 
-    -- the two rules of a place, before others
-    two-safe : (place : ℕ) {S : Type 0} → S
-        → ((field ≡ place) × (IsFinite (doubleAt c place) → ⊥) → ⊥) × (((field ≡ place) × (FieldRange place (fieldUnits place k (doubleAt c place)) → ⊥) → ⊥) × S)
-    two-safe place s = (fact-safe (λ q. at-place q .0), (fact-safe (λ q. at-place q .1), s))
+  rules-safe : Safe (importRules c k) field
+  unfolding importRules
+  rules-safe = (fact-safe (λ q. scale), two-safe 0 (two-safe 1 (two-safe 2 (two-safe 3 (two-safe 4 tt)))))
 
-    rules-safe : Safe (importRules c k) field
-    unfolding importRules
-    rules-safe = (fact-safe (λ q. scale), two-safe 0 (two-safe 1 (two-safe 2 (two-safe 3 (two-safe 4 tt)))))
-
-    pub field-gives : Gives c k field (fieldUnits field k (doubleAt c field))
-    field-gives =
-        record {
-          notRefused = λ number v. unbroken (importRules c k) field rules-safe number (import-refuses c k number field .0 v);
-          units = λ v. units-are c k field finite range;
-        }
+  pub field-gives : Gives c k field (fieldUnits field k (doubleAt c field))
+  field-gives =
+      record {
+        notRefused = λ number v. unbroken (importRules c k) field rules-safe number (import-refuses c k number field .0 v);
+        units = λ v. units-are c k field finite range;
+      }
 
 -- ---- a whole number in range
 pub whole-range : (field : ℕ) {n : ℕ} → n ≤ maxTotal → FieldRange field (pos n)
 whole-range zero h = (parts-le (omega arith), parts-le (omega arith))
 whole-range (suc field) h = (parts-le (omega arith), parts-le (omega arith))
 
-pub whole-gives : (c : CellDoubles) (k field : ℕ) → k ≤ 30 → IsFinite (doubleAt c field) → {n : ℕ} → n ≤ maxTotal → fieldUnits field k (doubleAt c field) ≡ pos n → Gives c k field (pos n)
+pub whole-gives : (c : CellDoubles) (k field : ℕ) → k ≤ 30 → FiniteAt c field → {n : ℕ} → n ≤ maxTotal → fieldUnits field k (doubleAt c field) ≡ pos n → Gives c k field (pos n)
 whole-gives c k field K f h e = subst (Gives c k field) e (field-gives c k field K f (subst (FieldRange field) (sym e) (whole-range field h)))
 
 -- a double that every rounding takes to the same number
@@ -143,23 +145,17 @@ same-gives c k field K {n} r = whole-gives c k field K (r .finite) (r .small) (a
 
 -- ---- out of range
 module _ (c : CellDoubles) (k : ℕ) (scale : k ≤ 30) where
-  abbrev Finite : ℕ → Type 0
-  Finite place = IsFinite (doubleAt c place)
-
-  abbrev InRange : ℕ → Type 0
-  InRange place = FieldRange place (fieldUnits place k (doubleAt c place))
-
   -- the two rules of a place before others, if the place is an earlier one and if it is this one
   abbrev Two : ℕ → ℕ → Type 0 → Type 0
-  Two field place S = Bears field 11 (ruleFor 10 place (Finite place)) × ((Finite place → ⊥) ⊎ (Bears field 11 (ruleFor 11 place (InRange place)) × ((InRange place → ⊥) ⊎ S)))
+  Two field place S = Bears field 11 (ruleFor 10 place (FiniteAt c place)) × ((FiniteAt c place → ⊥) ⊎ (Bears field 11 (ruleFor 11 place (RangeAt c k place)) × ((RangeAt c k place → ⊥) ⊎ S)))
 
   two-earlier : {field : ℕ} {S : Type 0} (place : ℕ) → place < field → S → Two field place S
   two-earlier place l s = (bears-earlier l, inr (bears-earlier l, inr s))
 
-  two-here : {S : Type 0} (field : ℕ) → Finite field → (InRange field → ⊥) → Two field field S
+  two-here : {S : Type 0} (field : ℕ) → FiniteAt c field → (RangeAt c k field → ⊥) → Two field field S
   two-here field f out = (bears-none f, inr (bears-here, inl out))
 
-  rules-stop : (field : ℕ) → Finite field → (InRange field → ⊥) → Stops field 11 (importRules c k)
+  rules-stop : (field : ℕ) → FiniteAt c field → (RangeAt c k field → ⊥) → Stops field 11 (importRules c k)
   unfolding importRules
   rules-stop zero f out = (bears-none scale, inr (two-here 0 f out))
   rules-stop (suc zero) f out = (bears-none scale, inr (two-earlier 0 (omega arith) (two-here 1 f out)))
@@ -168,7 +164,7 @@ module _ (c : CellDoubles) (k : ℕ) (scale : k ≤ 30) where
   rules-stop (suc (suc (suc (suc zero)))) f out = (bears-none scale, inr (two-earlier 0 (omega arith) (two-earlier 1 (omega arith) (two-earlier 2 (omega arith) (two-earlier 3 (omega arith) (two-here 4 f out))))))
   rules-stop (suc (suc (suc (suc (suc field))))) f out = absurd f
 
-  pub field-refuses : (field : ℕ) → IsFinite (doubleAt c field) → (FieldRange field (fieldUnits field k (doubleAt c field)) → ⊥) → Refuses c k field 11
+  pub field-refuses : (field : ℕ) → FiniteAt c field → (RangeAt c k field → ⊥) → Refuses c k field 11
   field-refuses field f out =
       let s = rules-stop field f out in
       let there : (n place : ℕ) → importVerdict c k ≡ Fail n place → (place ≤ field) × (place ≡ field → n ≡ 11) = λ n place v. stops-there field 11 (importRules c k) s n place (import-refuses c k n place .0 v) in

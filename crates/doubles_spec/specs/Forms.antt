@@ -17,7 +17,7 @@ use Rattle.doubles_spec.specs.declared.Product.the-variants.{Finite, Not
 use Rattle.doubles_spec.specs.declared.TargetField.{TargetField}
 use Rattle.doubles_spec.specs.declared.BoundField.{BoundField}
 
--- ---- what is left of a division by b: r, a remainder
+-- ---- what is left after a division by b, of which r is the remainder
 abbrev pub restAt : Bool → Ordering → Rest
 restAt true o = Nothing
 restAt false Ordering·lt = LessThanHalf
