@@ -1,20 +1,25 @@
 -- What one field of a cell gives by its own double alone: units, if that double is finite and in range when rounded, and else a refusal.
 -- Assumes nothing.
-use mathlib.Core.Path.{_≡_, refl, sym, _∙_, subst}
+use mathlib.Core.Path.{_≡_, refl, sym, ap, _∙_, subst}
 use mathlib.Core.Logic.{_⊎_, inl, inr, ⊎-elim}
+use mathlib.Core.Bool.{Bool}
 use mathlib.Core.List.{List, [], _∷_}
-use Prim.Native.Nat.{ℕ, zero, suc, _≤_, _<_}
+use Prim.Native.Nat.{ℕ, zero, suc, _*_, _^_, _≤_, _<_}
 use native.Mathlib.Nat.{le-refl}
 use native.Mathlib.Omega.{arith}
 use lib.IntN.{ℤ, pos, negsuc}
-use lib.Ieee.{Float}
+use lib.Ieee.{Float, nan, inf, fin, up, down}
+use lib.Ieee.Fits.{down-pos}
+use lib.Ieee.Exact.{HasValue}
 use Rattle.numbers.specs.Signed.{over}
 use Rattle.numbers.specs.Checks.{Rule, ruleFor, Holds, Broken, maxTotal}
+use Rattle.numbers.specs.Roundings.{signed, roundUp, roundDown, roundNearest}
 use Rattle.numbers.proofs.SignedLaws.{parts-le}
 use Rattle.numbers.specs.declared.Checked.the-variants.{Fail}
-use Rattle.doubles_spec.specs.Import.{IsFinite, targetUnits, lowUnits, highUnits, importVerdict, BoundRange, importRules, doubleAt, unitsAt, importUnits}
+use Rattle.doubles_spec.specs.Import.{IsFinite, scaled, targetUnits, lowUnits, highUnits, importVerdict, BoundRange, importRules, doubleAt, unitsAt, importUnits}
 use Rattle.doubles_spec.specs.OneField.{fieldUnits, FieldRange, Gives, Refuses}
 use Rattle.doubles_spec.specs.declared.CellDoubles.{CellDoubles}
+use Rattle.doubles_spec.proofs.FieldLaws.{KeepsWhole, nearest-whole, up-whole, down-whole}
 use Rattle.doubles_spec.proofs.ImportLaws.{import-decides, import-refuses}
 
 -- ---- rules of which none is broken at a place
@@ -142,6 +147,29 @@ same-gives c k field K {n} r = whole-gives c k field K (r .finite) (r .small) (a
     at (suc (suc (suc zero))) r = r .low
     at (suc (suc (suc (suc zero)))) r = r .high
     at (suc (suc (suc (suc (suc field))))) r = absurd (r .finite)
+
+-- one whose value times 2 ^ k is a whole number, above 0 or 0 with any sign
+module _ (k n : ℕ) (s : Bool) (sign : signed s n ≡ pos n) where
+  value-rounds : (rounding : Bool → ℕ → ℕ → ℤ) → KeepsWhole rounding → (x : Float) → HasValue x s n (2 ^ k) → scaled rounding k x ≡ pos n
+  value-rounds rounding whole nan v = absurd v
+  value-rounds rounding whole (inf t) v = absurd v
+  value-rounds rounding whole (fin t m e) v =
+      ap (λ (b : Bool). rounding b (m * up e * 2 ^ k) (down e)) (v .0) ∙ ap (λ (a : ℕ). rounding s a (down e)) (v .1) ∙ whole s n (down e) (down-pos e) ∙ sign
+
+  value-finite : (x : Float) → HasValue x s n (2 ^ k) → IsFinite x
+  value-finite nan v = v
+  value-finite (inf t) v = v
+  value-finite (fin t m e) v = tt
+
+  pub rounds-to : n ≤ maxTotal → (x : Float) → HasValue x s n (2 ^ k) → RoundsTo n k x
+  rounds-to h x v =
+      record {
+        finite = value-finite x v;
+        small = h;
+        target = value-rounds roundNearest nearest-whole x v;
+        low = value-rounds roundUp up-whole x v;
+        high = value-rounds roundDown down-whole x v;
+      }
 
 -- ---- out of range
 module _ (c : CellDoubles) (k : ℕ) (scale : k ≤ 30) where

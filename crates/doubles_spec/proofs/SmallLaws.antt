@@ -1,6 +1,6 @@
 -- What a zero and a subnormal give, at every scale. A zero gives 0, whatever its sign. A subnormal gives 0 as a target, 1 if above zero and
 -- 0 if below as a low, and 0 if above and −1, which is refused, if below as a high. Assumes nothing.
-use mathlib.Core.Path.{_≡_, sym, ap, _∙_, subst}
+use mathlib.Core.Path.{_≡_, refl, sym, ap, _∙_, subst}
 use mathlib.Core.Bool.{Bool, true, false, not, cond}
 use Prim.Native.Nat.{ℕ, zero, suc, _*_, _^_, _≤_, _<_, Ordering·lt}
 use native.Mathlib.Nat.{zero-mul, div-eq-of-lt, mod-eq-of-lt}
@@ -8,12 +8,11 @@ use native.Mathlib.Omega.{arith}
 use lib.IntN.{ℤ, pos, negsuc}
 use borrow.Author.Tests.{ne-eqb}
 use lib.Ieee.{Float, nan, inf, fin, up, down}
-use lib.Ieee.Fits.{down-pos}
 use lib.Ieee.Nearest.{closest}
 use Rattle.numbers.specs.Checks.{accepted, refused}
-use Rattle.numbers.specs.Roundings.{ceiling, signed, roundUp, roundDown, roundNearest}
+use Rattle.numbers.specs.Roundings.{ceiling, signed}
 use Rattle.numbers.proofs.TestLaws.{compare-is}
-use Rattle.doubles_spec.specs.Import.{IsFinite, scaled, targetUnits, lowUnits, highUnits, BoundRange, doubleAt}
+use Rattle.doubles_spec.specs.Import.{IsFinite, targetUnits, lowUnits, highUnits, BoundRange, doubleAt}
 use Rattle.doubles_spec.specs.OneField.{fieldUnits, Gives}
 use Rattle.doubles_spec.specs.Classes.{InClass, isBelowZero, subnormalAnswer, FieldAnswers}
 use Rattle.doubles_spec.specs.declared.CellDoubles.{CellDoubles}
@@ -21,8 +20,8 @@ use Rattle.doubles_spec.specs.declared.Class.the-variants.{Zero, Subnorm
 use Rattle.doubles_spec.proofs.Patterns.{other-sign}
 use Rattle.doubles_spec.proofs.ClassLaws.{above, not-zero, class-finite}
 use Rattle.doubles_spec.proofs.CaseLaws.{subnormal-size}
-use Rattle.doubles_spec.proofs.FieldLaws.{KeepsWhole, nearest-whole, up-whole, down-whole, no-sign, zero-whole}
-use Rattle.doubles_spec.proofs.OneFieldLaws.{whole-gives, RoundsTo, same-gives, field-refuses}
+use Rattle.doubles_spec.proofs.FieldLaws.{no-sign}
+use Rattle.doubles_spec.proofs.OneFieldLaws.{whole-gives, RoundsTo, same-gives, rounds-to, field-refuses}
 
 -- ---- above 0 and below a half
 module _ (a b : ℕ) (p : 0 < a) (h : a * 2 < b) where
@@ -36,21 +35,10 @@ module _ (a b : ℕ) (p : 0 < a) (h : a * 2 < b) where
   small-closest = rw (div-eq-of-lt small, mod-eq-of-lt small, compare-is Ordering·lt (a * 2) b h)
 
 -- ---- a zero
-module _ (k : ℕ) where
-  zero-units : (rounding : Bool → ℕ → ℕ → ℤ) → KeepsWhole rounding → (x : Float) → InClass Zero x → scaled rounding k x ≡ pos 0
-  zero-units rounding whole nan h = absurd (class-finite Zero nan (omega arith) h)
-  zero-units rounding whole (inf s) h = absurd (class-finite Zero (inf s) (omega arith) h)
-  zero-units rounding whole (fin s m e) h = ap (λ (a : ℕ). rounding s a (down e)) (ap (λ (n : ℕ). n * 2 ^ k) h ∙ zero-mul (2 ^ k)) ∙ zero-whole rounding whole s (down e) (down-pos e)
-
-  zero-rounds : (x : Float) → InClass Zero x → RoundsTo 0 k x
-  zero-rounds x h =
-      record {
-        finite = class-finite Zero x (omega arith) h;
-        small = omega arith;
-        target = zero-units roundNearest nearest-whole x h;
-        low = zero-units roundUp up-whole x h;
-        high = zero-units roundDown down-whole x h;
-      }
+zero-rounds : (k : ℕ) (x : Float) → InClass Zero x → RoundsTo 0 k x
+zero-rounds k nan h = absurd (class-finite Zero nan (omega arith) h)
+zero-rounds k (inf s) h = absurd (class-finite Zero (inf s) (omega arith) h)
+zero-rounds k (fin s m e) h = rounds-to k 0 s (no-sign s) (omega arith) (fin s m e) (refl, ap (λ (n : ℕ). n * 2 ^ k) h ∙ zero-mul (2 ^ k) ∙ sym (zero-mul (down e)))
 
 -- ---- a subnormal
 module _ (k : ℕ) (K : k ≤ 30) where

@@ -1,58 +1,30 @@
 -- Importing exported masses at their scale gives the masses again: in each field, whatever the other four hold; and of calls, if each of the
 -- five fields is an exported mass, exactly these units. Assumes nothing.
-use mathlib.Core.Path.{_≡_, refl, sym, ap, _∙_, subst}
-use mathlib.Core.Bool.{Bool, false}
-use Prim.Native.Nat.{ℕ, _*_, _^_, _≤_, _<_}
-use lib.IntN.{ℤ, pos}
-use lib.Ieee.{Float, nan, inf, fin, up, down}
-use lib.Ieee.Fits.{down-pos}
+use mathlib.Core.Path.{_≡_, refl, sym, _∙_, subst}
+use mathlib.Core.Bool.{false}
+use Prim.Native.Nat.{ℕ, _<_}
+use lib.IntN.{pos}
+use lib.Ieee.{Float}
 use Rattle.numbers.specs.declared.Checked.the-variants.{Pass}
-use Rattle.numbers.specs.Checks.{maxTotal}
-use Rattle.numbers.specs.Roundings.{roundDown, roundUp, roundNearest}
 use Rattle.numbers.proofs.CheckLaws.{answered-accepted}
-use Rattle.doubles_spec.specs.Import.{IsFinite, scaled, targetUnits, lowUnits, highUnits, importVerdict, TargetRange, BoundRange, doubleAt, importUnits, importTells, importHolds, carried, ImportContract}
-use Rattle.doubles_spec.specs.Export.{exportVerdict, ExportFits, exportDouble, exportTells, Exact, ExportContract}
+use Rattle.doubles_spec.specs.Import.{targetUnits, lowUnits, highUnits, importVerdict, TargetRange, BoundRange, doubleAt, importUnits, importTells, importHolds, carried, ImportContract}
+use Rattle.doubles_spec.specs.Export.{exportVerdict, ExportFits, exportDouble, exportTells, ExportContract}
 use Rattle.doubles_spec.specs.OneField.{Gives}
 use Rattle.doubles_spec.specs.Trip.{CellMasses, ExportedAt, massUnits}
 use Rattle.doubles_spec.specs.declared.CellDoubles.{CellDoubles}
 use Rattle.doubles_spec.specs.declared.Imported.{Imported}
 use Rattle.doubles_spec.specs.declared.Imported.the-variants.{Units}
 use Rattle.doubles_spec.specs.declared.Exported.the-variants.{Double}
-use Rattle.doubles_spec.proofs.FieldLaws.{KeepsWhole, nearest-whole, up-whole, down-whole}
 use Rattle.doubles_spec.proofs.ImportLaws.{import-accepts, import-answer-injective}
-use Rattle.doubles_spec.proofs.OneFieldLaws.{whole-range, RoundsTo, same-gives}
+use Rattle.doubles_spec.proofs.OneFieldLaws.{whole-range, RoundsTo, same-gives, rounds-to}
 use Rattle.doubles_spec.proofs.ExportLaws.{export-accepts, export-exact}
-
--- ---- one double
-
-module _ (mass k : ℕ) where
-  exact-finite : (x : Float) → Exact mass k x → IsFinite x
-  exact-finite nan v = v
-  exact-finite (inf s) v = v
-  exact-finite (fin s m e) v = tt
-
-  exact-rounds : (rounding : Bool → ℕ → ℕ → ℤ) → KeepsWhole rounding → (x : Float) → Exact mass k x → scaled rounding k x ≡ pos mass
-  exact-rounds rounding whole nan v = absurd v
-  exact-rounds rounding whole (inf s) v = absurd v
-  exact-rounds rounding whole (fin s m e) v =
-      ap (λ (t : Bool). rounding t (m * up e * 2 ^ k) (down e)) (v .0) ∙ ap (λ (a : ℕ). rounding false a (down e)) (v .1) ∙ whole false mass (down e) (down-pos e)
-
-  exact-back : mass ≤ maxTotal → (x : Float) → Exact mass k x → RoundsTo mass k x
-  exact-back s x v =
-      record {
-        finite = exact-finite x v;
-        small = s;
-        target = exact-rounds roundNearest nearest-whole x v;
-        low = exact-rounds roundUp up-whole x v;
-        high = exact-rounds roundDown down-whole x v;
-      }
 
 -- ---- the cell
 
 -- a cell that holds an exported mass in a field
 pub round-trip : {mass k : ℕ} → ExportFits mass k → (c : CellDoubles) (field : ℕ) → field < 5 → doubleAt c field ≡ exportDouble mass k → Gives c k field (pos mass)
 round-trip {mass} {k} fits c field l e =
-    same-gives c k field (fits .scale) (subst (RoundsTo mass k) (sym e) (exact-back mass k (fits .small) (exportDouble mass k) (export-exact fits)))
+    same-gives c k field (fits .scale) (subst (RoundsTo mass k) (sym e) (rounds-to k mass false refl (fits .small) (exportDouble mass k) (export-exact fits)))
 
 -- ---- calls
 
@@ -63,7 +35,7 @@ exported-fits {mass} {k} {x} p = export-accepts mass k .0 (answered-accepted (ex
 
 exported-back : {mass k : ℕ} {x : Float} → ExportContract mass k (Double x) → RoundsTo mass k x
 unfolding exportTells
-exported-back {mass} {k} {x} p = exact-back mass k (exported-fits p .small) x (p .exact x refl)
+exported-back {mass} {k} {x} p = rounds-to k mass false refl (exported-fits p .small) x (p .exact x refl)
 
 -- what rounds to a mass is in range
 module _ {mass k : ℕ} {x : Float} (r : RoundsTo mass k x) where
