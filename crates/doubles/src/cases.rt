@@ -2,8 +2,9 @@
 ghost use mathlib.Core.Path.{_≡_};
 ghost use Prim.Native.Nat.{_*_, _^_, _≤_, _<_};
 ghost use Rattle.doubles_spec.specs.Classes.{InClass};
-ghost use Rattle.doubles_spec.specs.Forms.{restBy, fraction, product};
+ghost use Rattle.doubles_spec.specs.Forms.{fraction, product};
 ghost use Rattle.doubles_spec.specs.declared.Class.the-variants.{Normal};
+use crate::rounding::rest_by;
 use doubles_spec::Class;
 use doubles_spec::Product;
 use doubles_spec::Rest;
@@ -105,21 +106,4 @@ pub fn digits_at(negative: bool, digits: u64, place: u64) -> Product
         whole: digits / unit,
         rest,
     }
-}
-
-// What is left after a division by `unit`, of which `left` is the remainder.
-pub fn rest_by(left: u64, unit: u64) -> Rest
-    requires { ⌜ left < 2 ^ 63 ⌝ }
-    ensures { λ r. ⌜ r ≡ restBy left unit ⌝ }
-{
-    if left == 0 {
-        return Rest::Nothing;
-    }
-    if left * 2 < unit {
-        return Rest::LessThanHalf;
-    }
-    if left * 2 == unit {
-        return Rest::Half;
-    }
-    Rest::MoreThanHalf
 }

@@ -3,36 +3,13 @@ ghost use mathlib.Core.Path.{_≡_};
 ghost use Prim.Native.Nat.{_≤_};
 ghost use lib.IntN.{pos};
 ghost use Rattle.numbers.specs.Roundings.{signed};
-ghost use Rattle.doubles_spec.specs.Forms.{addedAway, addedNearest, inTarget, inBound, targetField, lowField, highField};
+ghost use Rattle.doubles_spec.specs.Forms.{inTarget, inBound, targetField, lowField, highField};
 use crate::cases::scaled;
+use crate::rounding::added_away;
+use crate::rounding::added_nearest;
 use doubles_spec::BoundField;
 use doubles_spec::Product;
-use doubles_spec::Rest;
 use doubles_spec::TargetField;
-
-// What rounding away from zero adds to the whole part.
-pub fn added_away(rest: Rest) -> u64
-    ensures { λ r. ⌜ r ≡ addedAway rest ⌝ }
-{
-    match rest {
-        Rest::Nothing => 0,
-        Rest::LessThanHalf => 1,
-        Rest::Half => 1,
-        Rest::MoreThanHalf => 1,
-    }
-}
-
-// What rounding to nearest adds to the whole part, ties to even.
-pub fn added_nearest(whole: u64, rest: Rest) -> u64
-    ensures { λ r. ⌜ r ≡ addedNearest whole rest ⌝ }
-{
-    match rest {
-        Rest::Nothing => 0,
-        Rest::LessThanHalf => 0,
-        Rest::Half => whole % 2,
-        Rest::MoreThanHalf => 1,
-    }
-}
 
 // A bound's units, if they are in range.
 pub fn in_bound(q: u64) -> BoundField

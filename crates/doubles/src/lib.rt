@@ -1,19 +1,25 @@
 // The operations Import and Export. Public: `import`, `export`. Below them, for this crate alone: a double by the cases of IEEE 754 (`cases`),
-// what it gives in a field (`fields`), powers of two as doubles (`power`). Relies on `doubles_spec` and `numbers`.
+// what is left after a division and what a rounding adds for it (`rounding`), what a double gives in a field (`fields`), powers of two as
+// doubles (`power`). Relies on `doubles_spec` and `numbers`.
 ghost use mathlib.Core.Path.{_≡_};
 ghost use Rattle.doubles_spec.specs.declared.Imported.the-variants.{Refused};
 ghost use Rattle.doubles_spec.specs.Import.{ImportContract};
-ghost use Rattle.doubles_spec.specs.Export.{ExportContract};
+ghost use Rattle.doubles_spec.specs.Export.{checkMass, exportVerdict, ExportContract};
 use doubles_spec::BoundField;
 use doubles_spec::CellDoubles;
 use doubles_spec::CellUnits;
 use doubles_spec::Exported;
 use doubles_spec::Imported;
 use doubles_spec::TargetField;
+use numbers::Checked;
+use numbers::checks::check_scale;
+use numbers::checks::then;
+use numbers::checks::unless;
 
 mod cases;
 mod fields;
 mod power;
+mod rounding;
 
 // A field's refusal, with its double as it came.
 fn refused(number: u32, field: u32, double: f64) -> Imported
@@ -62,21 +68,26 @@ pub fn import(cell: CellDoubles, scale: u32) -> Imported
     })
 }
 
+// 11: the mass is at most 2147483647.
+fn check_mass(mass: u32) -> Checked
+    ensures { λ r. ⌜ r ≡ checkMass mass ⌝ }
+{
+    unless(mass <= 2147483647, 11, 0)
+}
+
+// The checks of Export, in 01's order.
+fn check_export(mass: u32, scale: u32) -> Checked
+    ensures { λ r. ⌜ r ≡ exportVerdict mass scale ⌝ }
+{
+    then(check_scale(scale), check_mass(mass))
+}
+
 // mass × 2^−scale, exactly.
 pub fn export(mass: u32, scale: u32) -> Exported
     ensures { λ r. ⌜ ExportContract mass scale r ⌝ }
 {
-    if scale > 30 {
-        return Exported::Refused {
-            number: 9,
-            place: 0,
-        };
+    match check_export(mass, scale) {
+        Checked::Pass => Exported::Double((mass as f64) * power::power(scale)),
+        Checked::Fail { number, place } => Exported::Refused { number, place },
     }
-    if mass > 2147483647 {
-        return Exported::Refused {
-            number: 11,
-            place: 0,
-        };
-    }
-    Exported::Double((mass as f64) * power::power(scale))
 }

@@ -1,6 +1,7 @@
 pub mod Fractions
-pub mod Powers
 pub mod Patterns
+pub mod Powers
+pub mod ValueLaws
 pub mod ClassLaws
 pub mod CaseLaws
 pub mod FieldLaws

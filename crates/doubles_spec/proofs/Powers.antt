@@ -1,21 +1,19 @@
 -- The double of a power of two from its bits, and the product of a mass with it. Assumes nothing.
 use mathlib.Core.Path.{_≡_, sym, ap, _∙_, subst}
-use mathlib.Core.Bool.{Bool, false, not, cond}
-use Prim.Native.Nat.{ℕ, suc, _+_, _-_, _*_, _/_, _%_, _^_, _≤_, _<_}
+use mathlib.Core.Bool.{Bool, false, not}
+use Prim.Native.Nat.{ℕ, suc, _+_, _-_, _*_, _%_, _^_, _≤_, _<_}
 use native.Mathlib.Nat.{mul-right-comm, mul-mul-mul-comm, mul-one, one-mul, mul-pos, zero-lt-suc, lt-of-lt-of-le, le-of-lt, eq-of-mul-eq-mul-right}
 use native.Mathlib.Omega.{arith}
 use lib.IntN.{pos}
 use lib.Dec.{T, lit≤}
-use lib.Arith.{le→nltb}
 use lib.Pow.{pow-add, pow-pos}
-use borrow.Author.Tests.{ne-eqb, lt-leb}
-use lib.Ieee.{Float, nan, inf, fin, Format, binary64, prec, up, down, unlike, odd, round, mul, ofInt, ofFields, ofBits, nanBits}
+use lib.Ieee.{Float, nan, inf, fin, Format, binary64, prec, up, down, unlike, round, mul, ofInt, ofBits, nanBits}
 use lib.Ieee.Fits.{down-pos}
-use lib.Ieee.Exact.{HasValue, odd-sign}
-use lib.Ieee.Bits.{nanBits-above}
+use lib.Ieee.Exact.{HasValue}
 use lib.Ieee.Back.{round-whole}
 use lib.Ieee.Scale.{round-same}
-use Rattle.doubles_spec.specs.Export.{exportDouble}
+use Rattle.doubles_spec.specs.Export.{exportValue, exportDouble}
+use Rattle.doubles_spec.proofs.Patterns.{pattern-no-nan, pattern-value}
 
 -- from one fraction to another of the same size
 pub rescale : (x : Float) (s : Bool) (w l num den : ℕ) → 0 < l → num * l ≡ w * den → HasValue x s w l → HasValue x s num den
@@ -36,39 +34,23 @@ abbrev pub bitsAt : ℕ → ℕ
 bitsAt k = (1023 - k) * 2 ^ 52 % 2 ^ 64
 
 pub power-no-nan : (k : ℕ) → T (not (nanBits binary64 (bitsAt k)))
-power-no-nan k = subst (λ (b : Bool). T (not b)) (sym (nanBits-above binary64 (bitsAt k))) (le→nltb (2047 * 2 ^ 52) (bitsAt k % 2 ^ 63) (omega arith))
-
-at-fields : (y : ℕ) → suc y < 2047 → HasValue (ofFields binary64 false (suc y) 0) false (2 ^ 52 * 2 ^ y) (2 ^ 1074)
-unfolding ofFields
-at-fields y h =
-    subst (λ (b : Bool). HasValue (cond b (inf false) (odd 53 false (2 ^ 52) y 1074)) false (2 ^ 52 * 2 ^ y) (2 ^ 1074)) (sym (ne-eqb (suc y) 2047 (λ e. omega arith)))
-    (odd-sign 53 false (2 ^ 52) y 1074)
-
-power-fields : (k : ℕ) → k ≤ 30 → ofBits binary64 (bitsAt k) ≡ ofFields binary64 false (suc (1022 - k)) 0
-unfolding ofBits
-power-fields k h =
-    let b = bitsAt k in
-    ap (λ (s : Bool). ofFields binary64 s (b % 2 ^ 63 / 2 ^ 52) (b % 2 ^ 52)) (lt-leb (2 ^ 63) b (omega arith))
-    ∙ ap (λ (x : ℕ). ofFields binary64 false x (b % 2 ^ 52)) (field k h)
-    ∙ ap (λ (t : ℕ). ofFields binary64 false (suc (1022 - k)) t) (digits k h)
-  where
-    field : (k : ℕ) → k ≤ 30 → (1023 - k) * 2 ^ 52 % 2 ^ 64 % 2 ^ 63 / 2 ^ 52 ≡ suc (1022 - k)
-    field k h = omega arith
-
-    digits : (k : ℕ) → k ≤ 30 → (1023 - k) * 2 ^ 52 % 2 ^ 64 % 2 ^ 52 ≡ 0
-    digits k h = omega arith
+power-no-nan k = pattern-no-nan binary64 (bitsAt k) (omega arith)
 
 pub power-value : (k : ℕ) → k ≤ 30 → HasValue (ofBits binary64 (bitsAt k)) false 1 (2 ^ k)
 power-value k h =
     let y = 1022 - k in
     rescale (ofBits binary64 (bitsAt k)) false (2 ^ 52 * 2 ^ y) (2 ^ 1074) 1 (2 ^ k) (pow-pos 1074)
     (one-mul (2 ^ 1074) ∙ ap (λ (x : ℕ). 2 ^ x) (places k h) ∙ pow-add 2 (52 + y) k ∙ ap (λ (x : ℕ). x * 2 ^ k) (pow-add 2 52 y))
-    (subst (λ (x : Float). HasValue x false (2 ^ 52 * 2 ^ y) (2 ^ 1074)) (sym (power-fields k h)) (at-fields y (below k h)))
+    (subst (λ (b : ℕ). HasValue (ofBits binary64 b) false (2 ^ 52 * 2 ^ y) (2 ^ 1074)) (bits k h)
+    (pattern-value binary64 y (2 ^ 52) (λ p. lit≤ tt) (lit≤ tt) (below k h)))
   where
     places : (k : ℕ) → k ≤ 30 → 1074 ≡ 52 + (1022 - k) + k
     places k h = omega arith
 
-    below : (k : ℕ) → k ≤ 30 → suc (1022 - k) < 2047
+    bits : (k : ℕ) → k ≤ 30 → (1022 - k) * 2 ^ 52 + 2 ^ 52 ≡ (1023 - k) * 2 ^ 52 % 2 ^ 64
+    bits k h = omega arith
+
+    below : (k : ℕ) → k ≤ 30 → suc (suc (1022 - k)) < 2047
     below k h = omega arith
 
 -- ---- a product, by the values
@@ -99,5 +81,5 @@ module _ (f : Format) where
       ∙ ap (λ (c : ℕ). round f false mass c) (one-mul (2 ^ k))
 
 pub product-is : (k mass : ℕ) (p : Float) → mass < 2 ^ 32 → HasValue p false 1 (2 ^ k) → mul binary64 (ofInt binary64 (pos mass)) p ≡ exportDouble mass k
-unfolding exportDouble
+unfolding exportValue
 product-is k mass p h v = mul-power binary64 k mass p (le-of-lt (lt-of-lt-of-le h (lit≤ tt))) v

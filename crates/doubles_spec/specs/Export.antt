@@ -4,7 +4,7 @@ use mathlib.Core.Bool.{false}
 use mathlib.Core.List.{List, [], _∷_}
 use Prim.Native.Nat.{ℕ, _^_, _≤_}
 use lib.Dec.{leb}
-use lib.Ieee.{Float, binary64, round}
+use lib.Ieee.{Float, Format, binary64, round}
 use lib.Ieee.Exact.{HasValue}
 use Rattle.numbers.specs.declared.Checked.{Checked}
 use Rattle.numbers.specs.Checks.{Answered, accepted, refused, answered, unless, first, Rule, rule, maxTotal, checkScale}
@@ -29,9 +29,13 @@ pub record ExportFits (mass k : ℕ) : Type 0 where
   pub scale : k ≤ 30
   pub small : mass ≤ maxTotal
 
--- the double nearest to mass / 2 ^ k; for a mass and a scale that are accepted it is exact
-unfoldable pub exportDouble : ℕ → ℕ → Float
-exportDouble mass k = round binary64 false mass (2 ^ k)
+-- the value of a format that is nearest to mass / 2 ^ k
+unfoldable pub exportValue : Format → ℕ → ℕ → Float
+exportValue f mass k = round f false mass (2 ^ k)
+
+-- the double; for a mass and a scale that are accepted it is exact
+abbrev pub exportDouble : ℕ → ℕ → Float
+exportDouble mass k = exportValue binary64 mass k
 
 -- what an answer tells
 unfoldable pub exportTells : Exported → Answered Float

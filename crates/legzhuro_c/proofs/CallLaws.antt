@@ -11,7 +11,7 @@ use mir.Val.{toZ, ofZ}
 use Rattle.numbers.specs.declared.Checked.{Checked}
 use Rattle.numbers.specs.declared.Checked.the-variants.{Pass, Fail}
 use Rattle.numbers.specs.Lists.{written, sum}
-use Rattle.numbers.specs.Checks.{refused, after, both, first, checkCount, checkLong}
+use Rattle.numbers.specs.Checks.{Answered, accepted, refused, answered, after, both, first, checkCount, checkLong}
 use Rattle.numbers.proofs.CheckLaws.{answered-accepted, answered-refused, after-pass, after-fail, both-pass, first-append, both-first, both-second, long-decides}
 use Rattle.caas_spec.specs.declared.SplitAnswer.{SplitAnswer}
 use Rattle.caas_spec.specs.declared.SplitAnswer.the-variants as split
@@ -32,11 +32,9 @@ use Rattle.doubles_spec.specs.declared.CellDoubles.{CellDoubles}
 use Rattle.doubles_spec.specs.declared.CellUnits.{CellUnits}
 use Rattle.doubles_spec.specs.declared.Imported.{Imported}
 use Rattle.doubles_spec.specs.declared.Imported.the-variants as imported
-use Rattle.doubles_spec.specs.declared.Exported.{Exported}
-use Rattle.doubles_spec.specs.declared.Exported.the-variants as exported
 use Rattle.doubles_spec.specs.Import.{importVerdict, importUnits, importTells, ImportContract}
-use Rattle.doubles_spec.specs.Export.{exportVerdict, exportDouble, exportTells, ExportContract}
-use Rattle.legzhuro_c.specs.Calls.{returned, splitCallVerdict, SplitReturns, openCallVerdict, OpenReturns, stepValues, stepCallVerdict, repairWords, StepReturns, importCallVerdict, unitsList, ImportReturns, exportCallVerdict, ExportReturns}
+use Rattle.doubles_spec.specs.Export.{exportVerdict}
+use Rattle.legzhuro_c.specs.Calls.{returned, splitCallVerdict, SplitReturns, openCallVerdict, OpenReturns, stepValues, stepCallVerdict, repairWords, StepReturns, importCallVerdict, unitsList, ImportReturns, exportCallVerdict, ValueReturns}
 
 -- ---- what a verdict makes of the return value and of a lent list
 
@@ -221,23 +219,24 @@ module _ (c : CellDoubles) (k : ℕ) (units : List ℤ) where
 
 -- ---- Export
 
-module _ (mass k : ℕ) (value : List Float) where
-  pub export-no-room : length value < 1 → ExportReturns mass k value 3 value
+module _ (mass k : ℕ) (x : Float) (value : List Float) where
+  pub value-no-room : length value < 1 → ValueReturns mass k x value 3 value
   unfolding exportCallVerdict
-  export-no-room h =
+  value-no-room h =
       let v = no-room (length value) 1 (exportVerdict mass k) h in
       record { returns = ap returned (sym v); writes = after-fail _ value v }
 
-  module _ {a : Exported} (p : ExportContract mass k a) (h : 1 ≤ length value) where
-    pub export-done : {x : Float} {r : ℕ} {value′ : List Float} → a ≡ exported.Double x → r ≡ 0 → value′ ≡ written value 0 (x ∷ []) → ExportReturns mass k value r value′
-    unfolding exportTells exportCallVerdict
-    export-done {x} e z w =
-        let t = answered-accepted (exportVerdict mass k) x (exportDouble mass k) (ap exportTells (sym e) ∙ p .answers) in
+  -- by what the operation's answer tells
+  module _ {a : Answered Float} (p : a ≡ answered (exportVerdict mass k) x) (h : 1 ≤ length value) where
+    pub value-done : {y : Float} {r : ℕ} {value′ : List Float} → a ≡ accepted y → r ≡ 0 → value′ ≡ written value 0 (y ∷ []) → ValueReturns mass k x value r value′
+    unfolding exportCallVerdict
+    value-done {y} e z w =
+        let t = answered-accepted (exportVerdict mass k) y x (sym e ∙ p) in
         let v = room (length value) 1 (exportVerdict mass k) h ∙ t .0 in
-        record { returns = returned-pass v z; writes = after-pass value v (w ∙ ap (λ y. written value 0 (y ∷ [])) (t .1)) }
+        record { returns = returned-pass v z; writes = after-pass value v (w ∙ ap (λ u. written value 0 (u ∷ [])) (t .1)) }
 
-    pub export-refused : {r number place : ℕ} → a ≡ exported.Refused number place → r ≡ number + place * 2 ^ 32 → ExportReturns mass k value r value
-    unfolding exportTells exportCallVerdict
-    export-refused {number = number} {place = place} e z =
-        let v = room (length value) 1 (exportVerdict mass k) h ∙ answered-refused (exportVerdict mass k) (exportDouble mass k) number place (ap exportTells (sym e) ∙ p .answers) in
+    pub value-refused : {r number place : ℕ} → a ≡ refused number place → r ≡ number + place * 2 ^ 32 → ValueReturns mass k x value r value
+    unfolding exportCallVerdict
+    value-refused {number = number} {place = place} e z =
+        let v = room (length value) 1 (exportVerdict mass k) h ∙ answered-refused (exportVerdict mass k) x number place (sym e ∙ p) in
         record { returns = returned-fail v z; writes = after-fail _ value v }

@@ -31,10 +31,10 @@ use Rattle.doubles_spec.specs.declared.CellDoubles.{CellDoubles}
 use Rattle.doubles_spec.specs.declared.CellUnits.{CellUnits}
 use Rattle.doubles_spec.specs.declared.Imported.the-variants.{BadScale, Refused}
 use Rattle.doubles_spec.specs.Import.{doubleAt, importVerdict, importRules, importUnits, importTells, importAnswer, importHolds, carried, ImportContract}
-use Rattle.doubles_spec.specs.Export.{exportVerdict, exportDouble, exportTells, exportAnswer, ExportContract}
+use Rattle.doubles_spec.specs.Export.{exportVerdict, exportTells, exportAnswer, ExportContract}
 use Rattle.doubles_spec.proofs.ImportLaws.{import-decides, import-refuses, import-numbers}
 use Rattle.doubles_spec.proofs.ExportLaws.{export-decides, export-numbers, export-meets}
-use Rattle.legzhuro_c.specs.Calls.{returned, toldBy, splitCallVerdict, SplitReturns, openCallVerdict, OpenReturns, stepValues, stepCallVerdict, repairWords, StepReturns, importCallVerdict, unitsList, ImportReturns, exportCallVerdict, ExportReturns, repairIn, unitsIn, doubleIn}
+use Rattle.legzhuro_c.specs.Calls.{returned, toldBy, splitCallVerdict, SplitReturns, openCallVerdict, OpenReturns, stepValues, stepCallVerdict, repairWords, StepReturns, importCallVerdict, unitsList, ImportReturns, exportCallVerdict, ValueReturns, ExportReturns, repairIn, unitsIn, valueIn}
 use Rattle.legzhuro_c.proofs.CallLaws.{after-by, long-passes, long-fails, room, no-room}
 
 -- ---- a return value tells its verdict
@@ -294,23 +294,29 @@ unfolding exportTells
 export-tells (accepted x) = refl
 export-tells (refused number place) = refl
 
-double-read : (value : List Float) (x : Float) → doubleIn (written value 0 (x ∷ [])) ≡ x
+value-read : (value : List Float) (x : Float) → valueIn (written value 0 (x ∷ [])) ≡ x
 unfolding written
-double-read value x = refl
+value-read value x = refl
 
 module _ (mass k : ℕ) (value : List Float) (r : ℕ) (value′ : List Float) where
-  pub export-own : 1 ≤ length value → ExportReturns mass k value r value′ → ExportContract mass k (exportAnswer (toldBy r (doubleIn value′)))
-  unfolding exportCallVerdict
+  -- whatever the value is
+  module _ {x : Float} where
+    value-own : 1 ≤ length value → ValueReturns mass k x value r value′ → toldBy r (valueIn value′) ≡ answered (exportVerdict mass k) x
+    unfolding exportCallVerdict
+    value-own h q =
+        let v = room (length value) 1 (exportVerdict mass k) h in
+        told-own (exportVerdict mass k) r (valueIn value′) x (export-numbered mass k) (q .returns ∙ ap returned v)
+        (λ e. ap valueIn (q .writes ∙ after-by (written value 0 (x ∷ [])) value (v ∙ e)) ∙ value-read value x)
+
+    value-short : length value < 1 → ValueReturns mass k x value r value′ → (r ≡ 3) × (value′ ≡ value)
+    unfolding exportCallVerdict
+    value-short h q =
+        let v = no-room (length value) 1 (exportVerdict mass k) h in
+        (q .returns ∙ ap returned v, q .writes ∙ after-by _ value v)
+
+  pub export-own : 1 ≤ length value → ExportReturns mass k value r value′ → ExportContract mass k (exportAnswer (toldBy r (valueIn value′)))
   export-own h q =
-      let v = room (length value) 1 (exportVerdict mass k) h in
-      let x = exportDouble mass k in
-      export-meets mass k (exportAnswer (toldBy r (doubleIn value′)))
-      (export-tells (toldBy r (doubleIn value′))
-      ∙ told-own (exportVerdict mass k) r (doubleIn value′) x (export-numbered mass k) (q .returns ∙ ap returned v)
-      (λ e. ap doubleIn (q .writes ∙ after-by (written value 0 (x ∷ [])) value (v ∙ e)) ∙ double-read value x))
+      export-meets mass k (exportAnswer (toldBy r (valueIn value′))) (export-tells (toldBy r (valueIn value′)) ∙ value-own h q)
 
   pub export-short : length value < 1 → ExportReturns mass k value r value′ → (r ≡ 3) × (value′ ≡ value)
-  unfolding exportCallVerdict
-  export-short h q =
-      let v = no-room (length value) 1 (exportVerdict mass k) h in
-      (q .returns ∙ ap returned v, q .writes ∙ after-by _ value v)
+  export-short = value-short

@@ -112,13 +112,16 @@ pub record ImportReturns (c : CellDoubles) (k : ℕ) (units : List ℤ) (r : ℕ
   pub returns : r ≡ returned (importCallVerdict c k units)
   pub writes : units′ ≡ after (importCallVerdict c k units) (written units 0 (unitsList (importUnits c k))) units
 
--- Export: the double goes to the first entry
+-- Export: the value x, which is the double, goes to the first entry
 unfoldable pub exportCallVerdict : ℕ → ℕ → List Float → Checked
 exportCallVerdict mass k value = first (checkLong (length value) 1 ∷ exportVerdict mass k ∷ [])
 
-pub record ExportReturns (mass k : ℕ) (value : List Float) (r : ℕ) (value′ : List Float) : Type 0 where
+pub record ValueReturns (mass k : ℕ) (x : Float) (value : List Float) (r : ℕ) (value′ : List Float) : Type 0 where
   pub returns : r ≡ returned (exportCallVerdict mass k value)
-  pub writes : value′ ≡ after (exportCallVerdict mass k value) (written value 0 (exportDouble mass k ∷ [])) value
+  pub writes : value′ ≡ after (exportCallVerdict mass k value) (written value 0 (x ∷ [])) value
+
+abbrev pub ExportReturns : ℕ → ℕ → List Float → ℕ → List Float → Type 0
+ExportReturns mass k = ValueReturns mass k (exportDouble mass k)
 
 -- ---- the values in the lent lists, from which the operations' own answers are read off
 
@@ -135,5 +138,5 @@ unitsIn units =
       «safe_high» = over (atℤ units 4);
     }
 
-abbrev pub doubleIn : List Float → Float
-doubleIn value = getD value 0 nan
+abbrev pub valueIn : List Float → Float
+valueIn value = getD value 0 nan

@@ -116,6 +116,13 @@ pub answered-refused : {X : Type 0} (v : Checked) (y : X) (number place : ℕ) �
 answered-refused Pass y number place e = let z : _≡_ {A = ℕ} 0 1 = cc in absurd (omega arith)
 answered-refused (Fail n p) y number place e = cc
 
+-- and the other way round
+pub accepted-answered : {X : Type 0} {v : Checked} {x y : X} → v ≡ Pass → x ≡ y → accepted x ≡ answered v y
+accepted-answered e h = rw (e, h)
+
+pub refused-answered : {X : Type 0} {v : Checked} (y : X) {number place : ℕ} → v ≡ Fail number place → refused number place ≡ answered v y
+refused-answered y e = rw e
+
 -- what an accepted call leaves, and a refused one
 pub after-pass : {X : Type 0} {v : Checked} {x new : X} (old : X) → v ≡ Pass → x ≡ new → x ≡ after v new old
 after-pass {new = new} old p e = e ∙ ap (λ w. after w new old) (sym p)

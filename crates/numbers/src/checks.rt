@@ -3,7 +3,7 @@ ghost use mathlib.Core.Path.{_≡_};
 ghost use mathlib.Core.Bool.{_&&_};
 ghost use Prim.Native.Nat.{_<_, _^_};
 ghost use Rattle.numbers.specs.declared.Checked.the-variants.{Fail};
-ghost use Rattle.numbers.specs.Checks.{unless, both, checkCount, checkLength, checkLong};
+ghost use Rattle.numbers.specs.Checks.{unless, both, checkCount, checkScale, checkLength, checkLong};
 
 // Two tests as one. (An argument `a && b` would part the ways before the call; this does not.)
 pub fn and(a: bool, b: bool) -> bool
@@ -49,6 +49,13 @@ pub fn check_count(n: usize) -> crate::Checked
     ensures { λ r. ⌜ r ≡ checkCount n ⌝ }
 {
     unless(and(0 < n, n <= 512), 1, 0)
+}
+
+// 9: the scale is at most 30.
+pub fn check_scale(k: u32) -> crate::Checked
+    ensures { λ r. ⌜ r ≡ checkScale k ⌝ }
+{
+    unless(k <= 30, 9, 0)
 }
 
 // 3: a list has the length n.

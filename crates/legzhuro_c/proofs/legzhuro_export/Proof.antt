@@ -1,12 +1,14 @@
 -- `legzhuro_c::legzhuro_export` meets its contract: the room first, and then what Export tells is returned and written.
+use mathlib.Core.Path.{ap}
 use native.Mathlib.Omega.{arith}
-use Rattle.legzhuro_c.proofs.CallLaws.{export-no-room, export-done, export-refused}
+use Rattle.doubles_spec.specs.Export.{exportDouble, exportTells}
+use Rattle.legzhuro_c.proofs.CallLaws.{value-no-room, value-done, value-refused}
 use borrow.Author.Needs.{needs}
 use Rattle.legzhuro_c.proofs.legzhuro_export.Statement.{statement}
 use Rattle.legzhuro_c.proofs.legzhuro_export.Tie as tie
 
 returns : tie.Need-returns
-returns c = let a = c .before .before .args in export-no-room (a .mass) (a .scale) (a .value .now) (c .if1 .taken)
+returns c = let a = c .before .before .args in value-no-room (a .mass) (a .scale) (exportDouble (a .mass) (a .scale)) (a .value .now) (c .if1 .taken)
 
 export-requires : tie.Need-export-requires
 export-requires c κs = search needs
@@ -27,15 +29,20 @@ same-length : tie.Need-same-length
 same-length c = search needs
 
 returns-2 : tie.Need-returns-2
+unfolding exportTells
 returns-2 c =
     let a = c .before .before .before .before .before .before .before .before .before .before .args in
     let put = c .before .before .put-double .ensures in
-    export-done (a .mass) (a .scale) (a .value .now) (c .before .before .before .before .before .before .before .export .ensures) (omega (arith, c .before .before .before .before .before .before .before .before .if1 .left)) (c .before .before .before .before .before .x .given .1) (put .0) (put .1)
+    value-done (a .mass) (a .scale) (exportDouble (a .mass) (a .scale)) (a .value .now) (c .before .before .before .before .before .before .before .export .ensures .answers)
+    (omega (arith, c .before .before .before .before .before .before .before .before .if1 .left))
+    (ap exportTells (c .before .before .before .before .before .x .given .1)) (put .0) (put .1)
 
 returns-3 : tie.Need-returns-3
+unfolding exportTells
 returns-3 c =
     let a = c .before .before .before .before .before .before .before .args in
-    export-refused (a .mass) (a .scale) (a .value .now) (c .before .before .before .before .export .ensures) (omega (arith, c .before .before .before .before .before .if1 .left)) (c .before .before .number .given .1) (c .refusal .ensures)
+    value-refused (a .mass) (a .scale) (exportDouble (a .mass) (a .scale)) (a .value .now) (c .before .before .before .before .export .ensures .answers)
+    (omega (arith, c .before .before .before .before .before .if1 .left)) (ap exportTells (c .before .before .number .given .1)) (c .refusal .ensures)
 
 pub legzhuro-export-spec : {M : Type 1} → statement M
 legzhuro-export-spec =

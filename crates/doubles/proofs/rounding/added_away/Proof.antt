@@ -1,7 +1,7 @@
--- `doubles::fields::added_away` meets its contract: each arm is a clause of `addedAway`.
+-- `doubles::rounding::added_away` meets its contract: each arm is a clause of `addedAway`.
 use borrow.Author.Needs.{needs}
-use Rattle.doubles.proofs.fields.added_away.Statement.{statement}
-use Rattle.doubles.proofs.fields.added_away.Tie as tie
+use Rattle.doubles.proofs.rounding.added_away.Statement.{statement}
+use Rattle.doubles.proofs.rounding.added_away.Tie as tie
 
 enum-told : tie.Need-enum-told
 enum-told c = search needs

@@ -1,11 +1,11 @@
--- `doubles::cases::rest_by` meets its contract: its tests are those of `restBy`.
+-- `doubles::rounding::rest_by` meets its contract: its tests are those of `restBy`.
 use mathlib.Core.Path.{sym}
 use Prim.Native.Nat.{Ordering·lt, Ordering·eq, Ordering·gt}
 use native.Mathlib.Omega.{arith}
 use borrow.Author.Needs.{needs}
 use Rattle.doubles_spec.proofs.Fractions.{left-none, left-some}
-use Rattle.doubles.proofs.cases.rest_by.Statement.{statement}
-use Rattle.doubles.proofs.cases.rest_by.Tie as tie
+use Rattle.doubles.proofs.rounding.rest_by.Statement.{statement}
+use Rattle.doubles.proofs.rounding.rest_by.Tie as tie
 
 returns : tie.Need-returns
 returns c = let a = c .before .args in sym (left-none (a .left) (a .unit) (c .if1 .taken))

@@ -1,10 +1,10 @@
--- `doubles::fields::added_nearest` meets its contract: each arm is a clause of `addedNearest`.
+-- `doubles::rounding::added_nearest` meets its contract: each arm is a clause of `addedNearest`.
 use mathlib.Core.Path.{sym, ap}
 use borrow.Author.Needs.{needs}
 use Rattle.doubles_spec.specs.Forms.{addedNearest}
 use Rattle.doubles_spec.specs.declared.Rest.{Rest}
-use Rattle.doubles.proofs.fields.added_nearest.Statement.{statement}
-use Rattle.doubles.proofs.fields.added_nearest.Tie as tie
+use Rattle.doubles.proofs.rounding.added_nearest.Statement.{statement}
+use Rattle.doubles.proofs.rounding.added_nearest.Tie as tie
 
 enum-told : tie.Need-enum-told
 enum-told c = search needs

@@ -1,0 +1,46 @@
+// What is left after a division, and what a rounding adds for it to the whole part.
+ghost use mathlib.Core.Path.{_≡_};
+ghost use Prim.Native.Nat.{_<_, _^_};
+ghost use Rattle.doubles_spec.specs.Forms.{restBy, addedAway, addedNearest};
+use doubles_spec::Rest;
+
+// What is left after a division by `unit`, of which `left` is the remainder.
+pub fn rest_by(left: u64, unit: u64) -> Rest
+    requires { ⌜ left < 2 ^ 63 ⌝ }
+    ensures { λ r. ⌜ r ≡ restBy left unit ⌝ }
+{
+    if left == 0 {
+        return Rest::Nothing;
+    }
+    if left * 2 < unit {
+        return Rest::LessThanHalf;
+    }
+    if left * 2 == unit {
+        return Rest::Half;
+    }
+    Rest::MoreThanHalf
+}
+
+// What rounding away from zero adds to the whole part.
+pub fn added_away(rest: Rest) -> u64
+    ensures { λ r. ⌜ r ≡ addedAway rest ⌝ }
+{
+    match rest {
+        Rest::Nothing => 0,
+        Rest::LessThanHalf => 1,
+        Rest::Half => 1,
+        Rest::MoreThanHalf => 1,
+    }
+}
+
+// What rounding to nearest adds to the whole part, ties to even.
+pub fn added_nearest(whole: u64, rest: Rest) -> u64
+    ensures { λ r. ⌜ r ≡ addedNearest whole rest ⌝ }
+{
+    match rest {
+        Rest::Nothing => 0,
+        Rest::LessThanHalf => 0,
+        Rest::Half => whole % 2,
+        Rest::MoreThanHalf => 1,
+    }
+}
