@@ -9,7 +9,7 @@
 ! legzhuro_read_answer reads in a file of legzhuro_reconstruct. Below 0 an integer(c_int32_t) i stands for i + 2**32; a byte b of a
 ! file is iand(int(b), 255).
 module legzhuro
-    use, intrinsic :: iso_c_binding, only: c_double, c_int8_t, c_int32_t, c_int64_t, c_size_t
+    use, intrinsic :: iso_c_binding, only: c_double, c_float, c_int8_t, c_int32_t, c_int64_t, c_size_t
     implicit none
     private
 
@@ -23,6 +23,7 @@ module legzhuro
 
     public :: legzhuro_reconstruct, legzhuro_write_field, legzhuro_read_answer
     public :: legzhuro_split, legzhuro_open, legzhuro_step, legzhuro_import, legzhuro_export
+    public :: legzhuro_export_single
     public :: legzhuro_number, legzhuro_place, legzhuro_field_file, legzhuro_answer_file
 
     interface
@@ -117,6 +118,15 @@ module legzhuro
             real(c_double), intent(inout) :: value(value_len)
             integer(c_int64_t) :: returned
         end function legzhuro_export
+
+        ! Turns a mass into a binary32: value(1).
+        function legzhuro_export_single(mass, scale, value, value_len) result(returned) bind(c, name='legzhuro_export_single')
+            import :: c_float, c_int32_t, c_int64_t, c_size_t
+            integer(c_int32_t), value :: mass, scale
+            integer(c_size_t), value :: value_len
+            real(c_float), intent(inout) :: value(value_len)
+            integer(c_int64_t) :: returned
+        end function legzhuro_export_single
     end interface
 
 contains

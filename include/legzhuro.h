@@ -23,7 +23,7 @@
  *    8  the total is out of reach: outside the sums of the bounds (in legzhuro_split) or of the safety bounds
  *    9  a scale above 30
  *   10  a double that is infinite or not a number (place: the field: target 0, low 1, high 2, safe low 3, safe high 4)
- *   11  a double out of range after rounding (place: the field); in legzhuro_export a mass above 2147483647
+ *   11  a double out of range after rounding (place: the field); in legzhuro_export and legzhuro_export_single a mass above 2147483647
  *   12  the kept masses do not add up to the total given; in legzhuro_read_answer the file's masses do not add up to its total
  *   13  a total below 0 or above 2147483647
  *   14  a file of length 0, no multiple of 512, or not that of its cells and nodes; a field file over 18432 bytes or an answer file over 3072
@@ -134,6 +134,12 @@ uint64_t legzhuro_import(double target, double low, double high, double safe_low
  * entries are left alone. Importing it at that scale in any field gives the mass again.
  * Refusals: 3 (`value` has no entry), 9, 11. */
 uint64_t legzhuro_export(uint32_t mass, uint32_t scale, double *value, size_t value_len);
+
+/* Turns a mass of at most 2147483647 units of 2^-scale into a binary32, for a viewer that holds no doubles: value[0] is the binary32 nearest
+ * to mass times 2^-scale, of two that are as near the even one, plus zero for mass 0; later entries are left alone. For a mass below 16777216
+ * it is exact, and equal to the double of legzhuro_export.
+ * Refusals: 3 (`value` has no entry), 9, 11. */
+uint64_t legzhuro_export_single(uint32_t mass, uint32_t scale, float *value, size_t value_len);
 
 #ifdef __cplusplus
 }

@@ -56,6 +56,7 @@ extern "C" {
         units_len: usize,
     ) -> u64;
     fn legzhuro_export(mass: u32, scale: u32, value: *mut f64, value_len: usize) -> u64;
+    fn legzhuro_export_single(mass: u32, scale: u32, value: *mut f32, value_len: usize) -> u64;
     fn legzhuro_write_field(
         cells: usize,
         nodes: usize,
@@ -154,6 +155,10 @@ pub fn import(doubles: [f64; 5], scale: u32, units: &mut [i64]) -> u64 {
 
 pub fn export(mass: u32, scale: u32, value: &mut [f64]) -> u64 {
     unsafe { legzhuro_export(mass, scale, value.as_mut_ptr(), value.len()) }
+}
+
+pub fn export_single(mass: u32, scale: u32, value: &mut [f32]) -> u64 {
+    unsafe { legzhuro_export_single(mass, scale, value.as_mut_ptr(), value.len()) }
 }
 
 pub fn write_field(cells: usize, nodes: usize, total: u32, lists: &Lists, buffer: &mut [u8]) -> u64 {

@@ -1,14 +1,15 @@
-//! Split, Open, Step, Import and Export through the calls from C, compared with the second implementation: the value returned and every
-//! lent list at exit, entry by entry.
+//! Split, Open, Step, Import and both exports through the calls from C, compared with the second implementation: the value returned and
+//! every lent list at exit, entry by entry.
 
 use crate::calls;
-use crate::doubles::MAX_SCALE;
+use crate::doubles::{self, MAX_SCALE};
 use crate::from_c::{self, returned};
 use crate::operations::{Refusal, LIMIT};
 use crate::random::{self, Random};
 use crate::shared::shared_by_masses;
 use crate::tally::Tally;
 use crate::tree::{Field, Workspace};
+use std::fmt::Debug;
 use std::num::FpCategory;
 
 /// How often inputs are broken: mostly not, and rarely in several ways at once, so that the order of the checks shows.
@@ -449,37 +450,81 @@ pub fn classes(tally: &mut Tally, random: &mut Random, count: u64) {
     }
 }
 
-/// Runs both sides; returns the double of the second implementation.
-fn compare_export(tally: &mut Tally, mass: u32, scale: u32, value: &[f64]) -> Option<f64> {
+/// An export to doubles or to binary32 values: the second implementation's, the library's, and the bits of a value.
+struct Export<T> {
+    name: &'static str,
+    mine: fn(u32, u32, &mut [T]) -> Result<(), Refusal>,
+    library: fn(u32, u32, &mut [T]) -> u64,
+    bits: fn(T) -> u64,
+}
+
+/// Runs both sides; returns the value of the second implementation.
+fn compare_export<T: Copy + Debug>(tally: &mut Tally, export: &Export<T>, mass: u32, scale: u32, value: &[T]) -> Option<T> {
     let (mut mine, mut theirs) = (value.to_vec(), value.to_vec());
-    let result = from_c::export(mass, scale, &mut mine);
+    let result = (export.mine)(mass, scale, &mut mine);
     let expected = returned(result);
-    let got = calls::export(mass, scale, &mut theirs);
-    let bits = |list: &[f64]| list.iter().map(|double| double.to_bits()).collect::<Vec<u64>>();
+    let got = (export.library)(mass, scale, &mut theirs);
+    let bits = |list: &[T]| list.iter().map(|&value| (export.bits)(value)).collect::<Vec<u64>>();
     tally.answer(&result);
     tally.input((expected, bits(&mine)) == (got, bits(&theirs)), || {
-        format!("export {mass} scale {scale}: second implementation {expected:#x} {mine:?}, library {got:#x} {theirs:?}")
+        let name = export.name;
+        format!("{name} {mass} scale {scale}: second implementation {expected:#x} {mine:?}, library {got:#x} {theirs:?}")
     });
     result.is_ok().then(|| mine[0])
 }
 
+fn make_mass(random: &mut Random) -> u32 {
+    let limit = LIMIT as u32;
+    match random.below(4) {
+        0 => random.pick(&[0, 1, 2, 3, limit, limit - 1, limit + 1, u32::MAX, 1 << 30]),
+        1 => 1 << random.below(32),
+        2 => random.bits() as u32,
+        _ => random.below(LIMIT + 1) as u32,
+    }
+}
+
 /// Exports, and imports what was exported in every field: it gives the mass again.
 pub fn exports(tally: &mut Tally, random: &mut Random, count: u64) {
+    let export = Export { name: "export", mine: from_c::export, library: calls::export, bits: f64::to_bits };
     for _ in 0..count {
-        let limit = LIMIT as u32;
-        let mass = match random.below(4) {
-            0 => random.pick(&[0, 1, 2, 3, limit, limit - 1, limit + 1, u32::MAX, 1 << 30]),
-            1 => 1 << random.below(32),
-            2 => random.bits() as u32,
-            _ => random.below(LIMIT + 1) as u32,
-        };
+        let mass = make_mass(random);
         let scale = make_scale(random);
         let length = random.pick(&[0, 1, 1, 1, 2, 3]);
         let value = any_bits(random, length, f64::from_bits);
-        if let Some(double) = compare_export(tally, mass, scale, &value) {
+        if let Some(double) = compare_export(tally, &export, mass, scale, &value) {
             let (again, units) = compare_import(tally, [double; 5], scale, &[0; 5]);
             if again.is_err() || units != [i64::from(mass); 5] {
                 tally.difference(format!("export {mass} scale {scale}: imported again it is {again:?} {units:?}"));
+            }
+        }
+    }
+}
+
+/// A mass of more than 24 bits whose lower bits are a half, or one more or less; or one about 16777216. Of the largest upper part rounding
+/// up carries into the next exponent.
+fn make_long_mass(random: &mut Random) -> u32 {
+    if random.chance(25) {
+        return random.between((1 << 24) - 4, (1 << 24) + 4) as u32;
+    }
+    let lower = random.between(1, 7);
+    let upper = if random.chance(25) { (1 << 24) - 1 } else { random.between(1 << 23, (1 << 24) - 1) };
+    (upper << lower | 1 << (lower - 1)) as u32 - 1 + random.below(3) as u32
+}
+
+/// Exports in binary32. Rust's own conversion of the double gives the same, and below 16777216 the value is the double's.
+pub fn singles(tally: &mut Tally, random: &mut Random, count: u64) {
+    let bits = |value: f32| u64::from(value.to_bits());
+    let export = Export { name: "export single", mine: from_c::export_single, library: calls::export_single, bits };
+    for _ in 0..count {
+        let mass = if random.chance(50) { make_long_mass(random) } else { make_mass(random) };
+        let scale = make_scale(random);
+        let length = random.pick(&[0, 1, 1, 1, 2, 3]);
+        let value = any_bits(random, length, |bits| f32::from_bits(bits as u32));
+        if let Some(single) = compare_export(tally, &export, mass, scale, &value) {
+            let double = doubles::export(mass, scale).expect("the checks are the same");
+            let exact = f64::from(single) == double;
+            if (double as f32).to_bits() != single.to_bits() || (mass < 1 << 24 && !exact) {
+                tally.difference(format!("export single {mass} scale {scale}: {single:e}, and the double is {double:e}"));
             }
         }
     }

@@ -1,5 +1,6 @@
-//! Import and Export, after the section "Doubles" of 01. A double is taken apart into sign, whole mantissa and exponent; rounding is done
-//! on whole numbers, never with doubles. Written from 01 alone; shares no code with the library.
+//! Import and Export, after the section "Doubles" of 01, and Export in binary32, after ticket 5 of 02. A double is taken apart into sign,
+//! whole mantissa and exponent; rounding to units is done on whole numbers, never with doubles. Written from the papers alone; shares no
+//! code with the library.
 
 use crate::operations::{refuse, Refusal, LIMIT};
 
@@ -112,12 +113,46 @@ fn put_together(mass: u32, scale: u32) -> f64 {
     f64::from_bits(field << 52 | fraction)
 }
 
-pub fn export(mass: u32, scale: u32) -> Result<f64, Refusal> {
+fn check_export(mass: u32, scale: u32) -> Result<(), Refusal> {
     if scale > MAX_SCALE {
         return refuse(9);
     }
     if u64::from(mass) > LIMIT {
         return refuse(11);
     }
+    Ok(())
+}
+
+pub fn export(mass: u32, scale: u32) -> Result<f64, Refusal> {
+    check_export(mass, scale)?;
     Ok(put_together(mass, scale))
+}
+
+/// The binary32 nearest to a double from 0 up to the largest binary32, ties to even: found among all patterns with the sign plus, which are
+/// in the order of their values. For a double with no more digits than a mass has, both distances are exact.
+fn nearest_single(double: f64) -> f32 {
+    let value = |pattern| f64::from(f32::from_bits(pattern));
+    let (mut below, mut above) = (0, f32::INFINITY.to_bits());
+    while above - below > 1 {
+        let middle = below + (above - below) / 2;
+        if value(middle) <= double {
+            below = middle;
+        } else {
+            above = middle;
+        }
+    }
+    let (down, up) = (double - value(below), value(above) - double);
+    let even = if below % 2 == 0 { below } else { above };
+    f32::from_bits(if down < up {
+        below
+    } else if up < down {
+        above
+    } else {
+        even
+    })
+}
+
+pub fn export_single(mass: u32, scale: u32) -> Result<f32, Refusal> {
+    check_export(mass, scale)?;
+    Ok(nearest_single(put_together(mass, scale)))
 }

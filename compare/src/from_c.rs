@@ -74,6 +74,12 @@ pub fn export(mass: u32, scale: u32, value: &mut [f64]) -> Result<(), Refusal> {
     Ok(())
 }
 
+pub fn export_single(mass: u32, scale: u32, value: &mut [f32]) -> Result<(), Refusal> {
+    check_length(value, 1)?;
+    value[0] = doubles::export_single(mass, scale)?;
+    Ok(())
+}
+
 pub fn write_field(cells: usize, nodes: usize, total: u32, lists: &Lists, buffer: &mut [u8]) -> Result<(), Refusal> {
     files::write_field(cells, nodes, total, lists, buffer)?;
     Ok(())

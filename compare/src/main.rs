@@ -10,12 +10,13 @@ use std::path::Path;
 
 const SEED: u64 = 20190525;
 
-// The refusals that a call can give, after the section "Operations and what each turns down" of 01 and tickets 1 and 2 of 02, in its order
-// of checks. From C a list that is too short for what a call gives counts under 3.
+// The refusals that a call can give, after the section "Operations and what each turns down" of 01 and tickets 1, 2 and 5 of 02, in its
+// order of checks. From C a list that is too short for what a call gives counts under 3.
 const SPLIT: [usize; 6] = [1, 3, 5, 6, 7, 8];
 const OPEN: [usize; 3] = [3, 1, 13];
 const STEP: [usize; 10] = [1, 2, 3, 4, 5, 6, 7, 12, 13, 8];
 const IMPORT: [usize; 4] = [3, 9, 10, 11];
+// In binary32 too.
 const EXPORT: [usize; 3] = [3, 9, 11];
 // Reading gives 14, 15, 16, 1 and 2, Reconstruct 4 to 8, and writing 3 alone: lists read have the right lengths, and what Reconstruct
 // gives has an outcome up to 2 and masses that add up to M.
@@ -75,6 +76,8 @@ fn main() {
     tally.end_part("field to answer", &ROUND_TRIP, &OUTCOMES);
     check_calls::classes(&mut tally, &mut random, scaled(200_000));
     tally.end_part("import by class", &CLASSES, &[]);
+    check_calls::singles(&mut tally, &mut random, scaled(200_000));
+    tally.end_part("export single", &EXPORT, &[]);
 
     if !tally.passes() {
         std::process::exit(1);

@@ -1,5 +1,6 @@
-/* Opens a kept field, steps it three times (the second step is refused), imports a cell's doubles, exports a mass, writes the field as a
- * file and repairs that file, and repairs the file named. Usage: example FIELD_FILE. The status is 0 if both were repaired, else 1. */
+/* Opens a kept field, steps it three times (the second step is refused), imports a cell's doubles, exports a mass as a double and one as a
+ * binary32, writes the field as a file and repairs that file, and repairs the file named. Usage: example FIELD_FILE. The status is 0 if both
+ * were repaired, else 1. */
 #include <inttypes.h>
 #include <stdio.h>
 
@@ -53,6 +54,7 @@ static int step(uint64_t *total, uint32_t *kept, int32_t source) {
 static int convert(void) {
     int64_t units[5];
     double value[1];
+    float single[1];
 
     printf("import:");
     uint64_t returned = legzhuro_import(2.5, -0.25, 7.75, 0.0, 10.0, 0, units, 5);
@@ -61,7 +63,10 @@ static int convert(void) {
     printf("\nexport:");
     returned = legzhuro_export(3, 1, value, 1);
     if (returned != 0) return refused(returned);
-    printf(" %g\n", value[0]);
+    printf(" %g\nexport single:", value[0]);
+    returned = legzhuro_export_single(16777219, 1, single, 1);
+    if (returned != 0) return refused(returned);
+    printf(" %.1f\n", (double)single[0]);
     return 0;
 }
 

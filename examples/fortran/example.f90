@@ -1,9 +1,9 @@
-! Opens a kept field, steps it twice (the second step is refused), exports the masses as doubles, writes the field as a file and
-! repairs that file, and repairs the file named.
+! Opens a kept field, steps it twice (the second step is refused), exports the masses as doubles and as binary32
+! values, writes the field as a file and repairs that file, and repairs the file named.
 ! Usage: example FIELD_FILE. To build it, after rt staticlib legzhuro_c:
 ! gfortran -Jtarget include/legzhuro.f90 examples/fortran/example.f90 target/staticlib/liblegzhuro_c.a -o target/example_fortran
 program example
-    use, intrinsic :: iso_c_binding, only: c_double, c_int8_t, c_int32_t, c_int64_t, c_size_t
+    use, intrinsic :: iso_c_binding, only: c_double, c_float, c_int8_t, c_int32_t, c_int64_t, c_size_t
     use legzhuro
     implicit none
     integer(c_size_t), parameter :: cells = 4, nodes = 7
@@ -45,13 +45,17 @@ contains
     subroutine export_masses(scale)
         integer(c_int32_t), intent(in) :: scale
         real(c_double) :: masses(cells)
+        real(c_float) :: singles(cells)
         integer :: c
 
         do c = 1, size(kept)
             returned = legzhuro_export(kept(c), scale, masses(c:c), 1_c_size_t)
             if (returned /= 0) error stop 'a mass was refused'
+            returned = legzhuro_export_single(kept(c), scale, singles(c:c), 1_c_size_t)
+            if (returned /= 0) error stop 'a mass was refused'
         end do
         print '(a, *(f4.1))', 'exported:', masses
+        print '(a, *(f4.1))', 'exported single:', singles
     end subroutine export_masses
 
     ! Repairs a field file, reads the answer and prints it after a name.

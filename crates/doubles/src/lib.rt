@@ -1,15 +1,17 @@
-// The operations Import and Export. Public: `import`, `export`. Below them, for this crate alone: a double by the cases of IEEE 754 (`cases`),
-// what is left after a division and what a rounding adds for it (`rounding`), what a double gives in a field (`fields`), powers of two as
-// doubles (`power`). Relies on `doubles_spec` and `numbers`.
+// The operations Import and Export, and Export in binary32. Public: `import`, `export`, `export_single`. Below them, for this crate alone: a
+// double by the cases of IEEE 754 (`cases`), divisions that are rounded (`rounding`), what a double gives in a field (`fields`), powers of
+// two as doubles (`power`), a mass as a binary32 (`singles`). Relies on `doubles_spec` and `numbers`.
 ghost use mathlib.Core.Path.{_≡_};
 ghost use Rattle.doubles_spec.specs.declared.Imported.the-variants.{Refused};
 ghost use Rattle.doubles_spec.specs.Import.{ImportContract};
 ghost use Rattle.doubles_spec.specs.Export.{checkMass, exportVerdict, ExportContract};
+ghost use Rattle.doubles_spec.specs.ExportSingle.{SingleContract};
 use doubles_spec::BoundField;
 use doubles_spec::CellDoubles;
 use doubles_spec::CellUnits;
 use doubles_spec::Exported;
 use doubles_spec::Imported;
+use doubles_spec::SingleExported;
 use doubles_spec::TargetField;
 use numbers::Checked;
 use numbers::checks::check_scale;
@@ -20,6 +22,7 @@ mod cases;
 mod fields;
 mod power;
 mod rounding;
+mod singles;
 
 // A field's refusal, with its double as it came.
 fn refused(number: u32, field: u32, double: f64) -> Imported
@@ -75,7 +78,7 @@ fn check_mass(mass: u32) -> Checked
     unless(mass <= 2147483647, 11, 0)
 }
 
-// The checks of Export, in 01's order.
+// The checks of both exports, in 01's order.
 fn check_export(mass: u32, scale: u32) -> Checked
     ensures { λ r. ⌜ r ≡ exportVerdict mass scale ⌝ }
 {
@@ -89,5 +92,15 @@ pub fn export(mass: u32, scale: u32) -> Exported
     match check_export(mass, scale) {
         Checked::Pass => Exported::Double((mass as f64) * power::power(scale)),
         Checked::Fail { number, place } => Exported::Refused { number, place },
+    }
+}
+
+// The binary32 nearest to mass × 2^−scale, ties to even.
+pub fn export_single(mass: u32, scale: u32) -> SingleExported
+    ensures { λ r. ⌜ SingleContract mass scale r ⌝ }
+{
+    match check_export(mass, scale) {
+        Checked::Pass => SingleExported::Single(singles::single(mass, scale)),
+        Checked::Fail { number, place } => SingleExported::Refused { number, place },
     }
 }

@@ -1,6 +1,7 @@
-// What is left after a division, and what a rounding adds for it to the whole part.
+// What is left after a division, what a rounding adds for it to the whole part, and a division to nearest.
 ghost use mathlib.Core.Path.{_≡_};
 ghost use Prim.Native.Nat.{_<_, _^_};
+ghost use lib.Ieee.Nearest.{closest};
 ghost use Rattle.doubles_spec.specs.Forms.{restBy, addedAway, addedNearest};
 use doubles_spec::Rest;
 
@@ -43,4 +44,14 @@ pub fn added_nearest(whole: u64, rest: Rest) -> u64
         Rest::Half => whole % 2,
         Rest::MoreThanHalf => 1,
     }
+}
+
+// size ÷ unit to the nearest whole number, ties to even.
+pub fn closest(size: u64, unit: u64) -> u64
+    requires { ⌜ size < 2 ^ 63 ⌝ ∗ ⌜ 0 < unit ⌝ }
+    ensures { λ r. ⌜ r ≡ closest size unit ⌝ }
+{
+    let whole = size / unit;
+    let rest = rest_by(size % unit, unit);
+    whole + added_nearest(whole, rest)
 }

@@ -49,6 +49,7 @@ away-le Half = omega arith
 away-le MoreThanHalf = omega arith
 
 pub nearest-le : (w : ℕ) (r : Rest) → addedNearest w r ≤ 1
+unfolding addedNearest
 nearest-le w Nothing = omega arith
 nearest-le w LessThanHalf = omega arith
 nearest-le w Half = omega arith
@@ -189,12 +190,13 @@ high-product = by-product inBound roundDown highFrom down-whole high-fraction
 
 -- a whole part of which nothing is left compares as less
 near-is : (q : ℕ) (t : Bool) (o : Ordering) → (T t → o ≡ Ordering·lt) → nearest q o ≡ q + addedNearest q (restAt t o)
+unfolding addedNearest
 near-is q true o h = ap (nearest q) (h tt) ∙ sym (add-zero q)
 near-is q false Ordering·lt h = sym (add-zero q)
 near-is q false Ordering·eq h = refl
 near-is q false Ordering·gt h = sym (add-one q)
 
-closest-is : (a b : ℕ) → 0 < b → closest a b ≡ a / b + addedNearest (a / b) (restOf a b)
+pub closest-is : (a b : ℕ) → 0 < b → closest a b ≡ a / b + addedNearest (a / b) (restOf a b)
 closest-is a b B = near-is (a / b) (eqb (a % b) 0) (compare (a % b * 2) b) none
   where
     none : T (eqb (a % b) 0) → compare (a % b * 2) b ≡ Ordering·lt

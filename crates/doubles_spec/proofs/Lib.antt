@@ -10,4 +10,9 @@ pub mod ImportLaws
 pub mod OneFieldLaws
 pub mod SmallLaws
 pub mod ExportLaws
+pub mod MultipleLaws
+pub mod DistanceLaws
+pub mod RoundedBits
+pub mod NearestLaws
+pub mod SingleLaws
 pub mod TripLaws

@@ -2,7 +2,7 @@
 use mathlib.Core.Path.{_≡_, refl, sym, ap, _∙_, subst}
 use mathlib.Core.Bool.{Bool, true, false, not, _&&_, cond, false≢true}
 use Prim.Native.Nat.{ℕ, suc, _+_, _-_, _*_, _/_, _%_, _^_, _≤_, _<_, compare, Ordering, Ordering·lt, Ordering·eq, Ordering·gt}
-use native.Mathlib.Nat.{add-zero, suc-mul, mul-comm, mul-assoc, mul-le-mul-right, mul-add-div-right, mul-add-mod-self-right, mod-eq-of-lt, mod-le, div-eq-of-lt, le-trans, pow-succ'}
+use native.Mathlib.Nat.{add-zero, suc-mul, mul-comm, mul-assoc, mul-le-mul-right, mul-add-div-right, mul-add-mod-self-right, mod-eq-of-lt, div-eq-of-lt, pow-succ'}
 use native.Mathlib.Omega.{arith}
 use lib.IntN.{ℤ}
 use lib.Dec.{T, leb, eqb}
@@ -34,8 +34,9 @@ under-top : (h y t o : ℕ) → y < o → t < h → y * h + t < h * suc o
 under-top h y t o Y L = omega (arith, suc-mul y h, mul-le-mul-right h Y, mul-comm h (suc o), suc-mul o h)
 
 module _ (f : Format) where
-  pub pattern-no-nan : (b : ℕ) → b ≤ ones f * hid f → T (not (nanBits f b))
-  pattern-no-nan b h = subst (λ (t : Bool). T (not t)) (sym (nanBits-above f b)) (le→nltb (ones f * hid f) (b % top f) (le-trans (mod-le b (top f)) h))
+  -- without its sign at most the infinity's: no NaN's
+  pub pattern-no-nan : (b : ℕ) → b % top f ≤ ones f * hid f → T (not (nanBits f b))
+  pattern-no-nan b h = subst (λ (t : Bool). T (not t)) (sym (nanBits-above f b)) (le→nltb (ones f * hid f) (b % top f) h)
 
   pattern-fields : (y t : ℕ) → y < ones f → t < hid f → ofBits f (y * hid f + t) ≡ ofFields f false y t
   unfolding ofBits

@@ -31,7 +31,7 @@ module _ (f : Format) (s : Bool) (a : ℕ) where
   value-unique x y F G v w = sym (ofBits-toBits f x F) ∙ ap (ofBits f) (bits-of x v ∙ sym (bits-of y w)) ∙ ofBits-toBits f y G
 
 -- ---- a scale is far above a format's smallest exponent
-scale-low : (f : Format) {k : ℕ} → k ≤ 30 → k ≤ low f
+pub scale-low : (f : Format) {k : ℕ} → k ≤ 30 → k ≤ low f
 scale-low binary32 h = le-trans h (lit≤ tt)
 scale-low binary64 h = le-trans h (lit≤ tt)
 

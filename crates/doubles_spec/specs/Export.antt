@@ -29,7 +29,7 @@ pub record ExportFits (mass k : ℕ) : Type 0 where
   pub scale : k ≤ 30
   pub small : mass ≤ maxTotal
 
--- the value of a format that is nearest to mass / 2 ^ k
+-- the value of a format that is nearest to mass / 2 ^ k, of two that are as near the even one
 unfoldable pub exportValue : Format → ℕ → ℕ → Float
 exportValue f mass k = round f false mass (2 ^ k)
 

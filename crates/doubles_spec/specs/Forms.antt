@@ -1,9 +1,11 @@
--- The forms of Import that the code follows, field by field; laws in proofs/ say that they give what the definitions of Import give. Assumes nothing.
+-- The forms that the code follows, of Import field by field and of Export in binary32; laws in proofs/ say that they give what the definitions
+-- give. Assumes nothing.
 use mathlib.Core.Bool.{Bool, true, false, cond}
-use Prim.Native.Nat.{ℕ, _*_, _/_, _%_, _^_, min, compare, Ordering, Ordering·lt, Ordering·eq, Ordering·gt}
+use Prim.Native.Nat.{ℕ, suc, _*_, _/_, _%_, _^_, _≤_, _<_, min, compare, Ordering, Ordering·lt, Ordering·eq, Ordering·gt}
 use lib.IntN.{ℤ, pos, negsuc}
 use lib.Dec.{leb, ltb, eqb}
 use lib.Ieee.{Float, nan, inf, fin, up, down}
+use lib.Ieee.Nearest.{closest}
 use Rattle.doubles_spec.specs.Import.{scaled}
 use Rattle.doubles_spec.specs.Classes.{isBelowZero}
 use Rattle.numbers.specs.Roundings.{roundNearest, roundUp, roundDown}
@@ -37,7 +39,7 @@ addedAway LessThanHalf = 1
 addedAway Half = 1
 addedAway MoreThanHalf = 1
 
-abbrev pub addedNearest : ℕ → Rest → ℕ
+unfoldable pub addedNearest : ℕ → Rest → ℕ
 addedNearest whole Nothing = 0
 addedNearest whole LessThanHalf = 0
 addedNearest whole Half = whole % 2
@@ -97,3 +99,11 @@ importFields k c =
 
 unfoldable pub importForm : ℕ → CellDoubles → Imported
 importForm k c = cond (leb k 30) (importFields k c) BadScale
+
+-- ---- Export in binary32: j is the position of the highest set bit of a mass above 0
+abbrev pub HighestBit : ℕ → ℕ → Type 0
+HighestBit mass j = (2 ^ j ≤ mass) × (mass < 2 ^ suc j)
+
+-- the significand: mass / 2 ^ j, which is at least 1 and below 2, in units of 2 ^ −23, to nearest with ties to even
+abbrev pub significand : ℕ → ℕ → ℕ
+significand mass j = closest (mass * 2 ^ 23) (2 ^ j)

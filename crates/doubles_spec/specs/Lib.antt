@@ -1,5 +1,7 @@
 pub mod Import
 pub mod Export
+pub mod NearestValue
+pub mod ExportSingle
 pub mod OneField
 pub mod Trip
 pub mod Classes

@@ -1,6 +1,6 @@
-// Import and Export: doubles to units and units to doubles by IEEE 754. What the operations check and answer, the five classes of a double,
-// the forms that the code follows, and the laws. Definitions (specs/) and laws (proofs/) alone; the code is in the crate `doubles`. Relies
-// on `numbers`, where the roundings stand.
+// Import and Export, and Export in binary32: doubles to units and units to doubles by IEEE 754. What the operations check and answer, the five
+// classes of a double, the nearest value of a format, the forms that the code follows, and the laws. Definitions (specs/) and laws (proofs/)
+// alone; the code is in the crate `doubles`. Relies on `numbers`, where the roundings stand.
 
 // The five doubles of a cell.
 pub struct CellDoubles {
@@ -34,6 +34,12 @@ pub enum Imported {
 // Export's answer.
 pub enum Exported {
     Double(f64),
+    Refused { number: u32, place: u32 },
+}
+
+// The answer of Export in binary32 (02, ticket 5).
+pub enum SingleExported {
+    Single(f32),
     Refused { number: u32, place: u32 },
 }
 

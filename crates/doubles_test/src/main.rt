@@ -1,11 +1,12 @@
-// A test program: runs Import and Export on cases from standard input, and prints a line for each. The file `stdin` has the cases;
-// `stdout` was written by an implementation of 01's own words in another language, with exact fractions, and not by this program.
+// A test program: runs Import, Export and Export in binary32 on cases from standard input, and prints a line for each. The file `stdin`
+// has the cases; `stdout` was written by an implementation of the papers' own words in another language, and not by this program.
 // The input is whole numbers with spaces and line ends between them. A case starts with its kind. 1 is Import: then come the scale and
 // the bit patterns of target, low, high, safe low and safe high; each pattern of a NaN stands for the one NaN of the language. 2 is
 // Export: then come mass and scale. 3 is Export, and Import at the same scale of the double that it gave, in all five fields: mass and
-// scale again. Any other kind is a case by itself. Scales and masses above 4294967295 are taken as 4294967295.
-// A line has `units` and the five units, `double` and its bit pattern, or `refused` with number and place. Where the refusal carries a
-// double, its bit pattern follows, or `nan`. The cases end with the input, of which at most 65,536 bytes are read.
+// scale again. 4 is Export in binary32: mass and scale again. Any other kind is a case by itself. Scales and masses above 4294967295 are
+// taken as 4294967295.
+// A line has `units` and the five units, `double` or `single` and its bit pattern, or `refused` with number and place. Where the refusal
+// carries a double, its bit pattern follows, or `nan`. The cases end with the input, of which at most 65,536 bytes are read.
 // Relies on `doubles`, which it tests, `doubles_spec` for the answers, `test_support`, and the kit's `io` and `libc`.
 ghost use Prim.Native.Nat.{_≤_};
 ghost use lib.ListN.{length};
@@ -37,6 +38,16 @@ fn run_export(text: &[u8], at: usize) -> usize
 {
     let case = input::read_export(text, at);
     output::show_export(doubles::export(case.mass, case.scale));
+    case.next
+}
+
+// The same for Export in binary32.
+fn run_export_single(text: &[u8], at: usize) -> usize
+    requires { ⌜ at ≤ length (now text) ⌝ }
+    ensures { λ r. ⌜ r ≤ length (now (text .entry)) ⌝ }
+{
+    let case = input::read_export(text, at);
+    output::show_export_single(doubles::export_single(case.mass, case.scale));
     case.next
 }
 
@@ -87,6 +98,9 @@ fn run_case(text: &[u8], at: usize) -> usize
     }
     if kind.value == 3 {
         return skip(text, run_both(text, kind.next));
+    }
+    if kind.value == 4 {
+        return skip(text, run_export_single(text, kind.next));
     }
     show_no_kind();
     skip(text, kind.next)

@@ -2,6 +2,7 @@
 use doubles_spec::CellUnits;
 use doubles_spec::Exported;
 use doubles_spec::Imported;
+use doubles_spec::SingleExported;
 use libc::STDOUT_FILENO;
 use test_support::output::end_line;
 use test_support::output::print_number;
@@ -19,6 +20,15 @@ fn print_target(x: i32) {
 fn print_double(x: f64) {
     if x == x {
         print_number(f64::to_bits(x));
+    } else {
+        io::write_all(STDOUT_FILENO, b" nan");
+    }
+}
+
+// The same for a binary32.
+fn print_single(x: f32) {
+    if x == x {
+        print_number(wide(f32::to_bits(x)));
     } else {
         io::write_all(STDOUT_FILENO, b" nan");
     }
@@ -70,6 +80,20 @@ pub fn show_export(answer: Exported) {
             end_line();
         }
         Exported::Refused { number, place } => {
+            show_refusal(number, place);
+        }
+    }
+}
+
+// The line of what Export in binary32 answered.
+pub fn show_export_single(answer: SingleExported) {
+    match answer {
+        SingleExported::Single(x) => {
+            io::write_all(STDOUT_FILENO, b"single");
+            print_single(x);
+            end_line();
+        }
+        SingleExported::Refused { number, place } => {
             show_refusal(number, place);
         }
     }

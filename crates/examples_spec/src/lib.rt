@@ -1,2 +1,3 @@
 // 01's starred examples, E1 to E10, as one table that one fact covers: each row applies the definitions that an operation's contract
-// cites. Definitions (specs/) and the fact (proofs/) alone. Relies on the crates that define the operations.
+// cites. Beside it where programs stray, and masses in binary32 (02, ticket 5), a table and a fact each. Definitions (specs/) and facts
+// alone. Relies on the crates that define the operations.

@@ -217,7 +217,7 @@ module _ (c : CellDoubles) (k : ℕ) (units : List ℤ) where
     unfolding importTells
     import-refused e z = import-told (ap importTells e) z
 
--- ---- Export
+-- ---- Export, as a double and as a binary32
 
 module _ (mass k : ℕ) (x : Float) (value : List Float) where
   pub value-no-room : length value < 1 → ValueReturns mass k x value 3 value

@@ -32,9 +32,11 @@ use Rattle.doubles_spec.specs.declared.CellUnits.{CellUnits}
 use Rattle.doubles_spec.specs.declared.Imported.the-variants.{BadScale, Refused}
 use Rattle.doubles_spec.specs.Import.{doubleAt, importVerdict, importRules, importUnits, importTells, importAnswer, importHolds, carried, ImportContract}
 use Rattle.doubles_spec.specs.Export.{exportVerdict, exportTells, exportAnswer, ExportContract}
+use Rattle.doubles_spec.specs.ExportSingle.{singleTells, singleAnswer, SingleContract}
 use Rattle.doubles_spec.proofs.ImportLaws.{import-decides, import-refuses, import-numbers}
 use Rattle.doubles_spec.proofs.ExportLaws.{export-decides, export-numbers, export-meets}
-use Rattle.legzhuro_c.specs.Calls.{returned, toldBy, splitCallVerdict, SplitReturns, openCallVerdict, OpenReturns, stepValues, stepCallVerdict, repairWords, StepReturns, importCallVerdict, unitsList, ImportReturns, exportCallVerdict, ValueReturns, ExportReturns, repairIn, unitsIn, valueIn}
+use Rattle.doubles_spec.proofs.SingleLaws.{single-meets}
+use Rattle.legzhuro_c.specs.Calls.{returned, toldBy, splitCallVerdict, SplitReturns, openCallVerdict, OpenReturns, stepValues, stepCallVerdict, repairWords, StepReturns, importCallVerdict, unitsList, ImportReturns, exportCallVerdict, ValueReturns, ExportReturns, SingleReturns, repairIn, unitsIn, valueIn}
 use Rattle.legzhuro_c.proofs.CallLaws.{after-by, long-passes, long-fails, room, no-room}
 
 -- ---- a return value tells its verdict
@@ -284,7 +286,7 @@ module _ (c : CellDoubles) (k : ℕ) (units : List ℤ) (r : ℕ) (units′ : Li
       let v = no-room (length units) 5 (importVerdict c k) h in
       (q .returns ∙ ap returned v, q .writes ∙ after-by _ units v)
 
--- ---- Export
+-- ---- Export, as a double and as a binary32
 
 pub export-numbered : (mass k : ℕ) → Numbered (exportVerdict mass k)
 export-numbered mass k = numbered _ (export-decides mass k) (export-numbers mass k) refl
@@ -293,6 +295,11 @@ export-tells : (a : Answered Float) → exportTells (exportAnswer a) ≡ a
 unfolding exportTells
 export-tells (accepted x) = refl
 export-tells (refused number place) = refl
+
+single-tells : (a : Answered Float) → singleTells (singleAnswer a) ≡ a
+unfolding singleTells
+single-tells (accepted x) = refl
+single-tells (refused number place) = refl
 
 value-read : (value : List Float) (x : Float) → valueIn (written value 0 (x ∷ [])) ≡ x
 unfolding written
@@ -320,3 +327,10 @@ module _ (mass k : ℕ) (value : List Float) (r : ℕ) (value′ : List Float) w
 
   pub export-short : length value < 1 → ExportReturns mass k value r value′ → (r ≡ 3) × (value′ ≡ value)
   export-short = value-short
+
+  pub single-own : 1 ≤ length value → SingleReturns mass k value r value′ → SingleContract mass k (singleAnswer (toldBy r (valueIn value′)))
+  single-own h q =
+      single-meets mass k (singleAnswer (toldBy r (valueIn value′))) (single-tells (toldBy r (valueIn value′)) ∙ value-own h q)
+
+  pub single-short : length value < 1 → SingleReturns mass k value r value′ → (r ≡ 3) × (value′ ≡ value)
+  single-short = value-short

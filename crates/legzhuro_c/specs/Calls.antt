@@ -21,6 +21,7 @@ use Rattle.doubles_spec.specs.declared.CellDoubles.{CellDoubles}
 use Rattle.doubles_spec.specs.declared.CellUnits.{CellUnits}
 use Rattle.doubles_spec.specs.Import.{importVerdict, importUnits}
 use Rattle.doubles_spec.specs.Export.{exportVerdict, exportDouble}
+use Rattle.doubles_spec.specs.ExportSingle.{exportSingle}
 use Rattle.files_spec.specs.declared.AnswerWritten.{AnswerWritten}
 use Rattle.files_spec.specs.declared.AnswerWritten.the-variants as answers
 use Rattle.files_spec.specs.ReadField.{fileCells}
@@ -112,7 +113,7 @@ pub record ImportReturns (c : CellDoubles) (k : ℕ) (units : List ℤ) (r : ℕ
   pub returns : r ≡ returned (importCallVerdict c k units)
   pub writes : units′ ≡ after (importCallVerdict c k units) (written units 0 (unitsList (importUnits c k))) units
 
--- Export: the value x, which is the double, goes to the first entry
+-- Export, as a double and as a binary32: the value x goes to the first entry
 unfoldable pub exportCallVerdict : ℕ → ℕ → List Float → Checked
 exportCallVerdict mass k value = first (checkLong (length value) 1 ∷ exportVerdict mass k ∷ [])
 
@@ -122,6 +123,9 @@ pub record ValueReturns (mass k : ℕ) (x : Float) (value : List Float) (r : ℕ
 
 abbrev pub ExportReturns : ℕ → ℕ → List Float → ℕ → List Float → Type 0
 ExportReturns mass k = ValueReturns mass k (exportDouble mass k)
+
+abbrev pub SingleReturns : ℕ → ℕ → List Float → ℕ → List Float → Type 0
+SingleReturns mass k = ValueReturns mass k (exportSingle mass k)
 
 -- ---- the values in the lent lists, from which the operations' own answers are read off
 

@@ -1,15 +1,16 @@
-// The calls from C, a static library. `include/legzhuro.h` documents them. Public: the eight functions here; what they share is in `returns`
+// The calls from C, a static library. `include/legzhuro.h` documents them. Public: the nine functions here; what they share is in `returns`
 // and the work of the file call in `whole`. Relies on every operation and on `repair_file` and `numbers`.
 ghost use Rattle.caas_spec.specs.Operation.{splitCall};
 ghost use Rattle.qlt_spec.specs.Field.{lists};
 ghost use Rattle.kept_spec.specs.Step.{stepCall};
 ghost use Rattle.files_spec.specs.WriteField.{fieldWriteCall};
-ghost use Rattle.legzhuro_c.specs.Calls.{ReconstructReturns, SplitReturns, OpenReturns, StepReturns, ImportReturns, ExportReturns};
+ghost use Rattle.legzhuro_c.specs.Calls.{ReconstructReturns, SplitReturns, OpenReturns, StepReturns, ImportReturns, ExportReturns, SingleReturns};
 ghost use Rattle.legzhuro_c.specs.FileCalls.{WriteFieldReturns, ReadAnswerReturns};
 use caas_spec::SplitAnswer;
 use doubles_spec::CellDoubles;
 use doubles_spec::Exported;
 use doubles_spec::Imported;
+use doubles_spec::SingleExported;
 use files_spec::AnswerRead;
 use files_spec::FieldWritten;
 use kept_spec::Opened;
@@ -182,6 +183,20 @@ pub extern "C" fn legzhuro_export(mass: u32, scale: u32, value: &mut [f64]) -> u
     match doubles::export(mass, scale) {
         Exported::Double(x) => returns::put_double(x, value),
         Exported::Refused { number, place } => returns::refusal(number, place),
+    }
+}
+
+// Export in binary32: value[0] is the binary32.
+#[no_mangle]
+pub extern "C" fn legzhuro_export_single(mass: u32, scale: u32, value: &mut [f32]) -> u64
+    ensures { λ r. ⌜ SingleReturns mass scale (now (value .entry)) r (now (value .exit)) ⌝ }
+{
+    if value.len() < 1 {
+        return 3;
+    }
+    match doubles::export_single(mass, scale) {
+        SingleExported::Single(x) => returns::put_single(x, value),
+        SingleExported::Refused { number, place } => returns::refusal(number, place),
     }
 }
 

@@ -112,3 +112,11 @@ pub fn put_double(x: f64, value: &mut [f64]) -> u64
     value[0] = x;
     0
 }
+
+pub fn put_single(x: f32, value: &mut [f32]) -> u64
+    requires { ⌜ 1 ≤ length (now value) ⌝ }
+    ensures { λ r. ⌜ (r ≡ 0) × (now (value .exit) ≡ written (now (value .entry)) 0 (x ∷ [])) ⌝ }
+{
+    value[0] = x;
+    0
+}

@@ -31,6 +31,14 @@ neg-times-parts y b = (
 far : (u v : ℤ) → natAbs (u -ℤ v) ≡ gap (over u + under v) (over v + under u)
 far u v = omega (arith, minus-parts u v, one-part (u -ℤ v), abs-parts (u -ℤ v))
 
+-- how far a whole number of either sign is from a / b, times b
+module _ (a b y : ℕ) where
+  pub distance-plus : scaledDistance (pos a) b (signed false y) ≡ gap (y * b) a
+  distance-plus = minus-size (y * b) a
+
+  pub distance-minus : scaledDistance (pos a) b (signed true y) ≡ y * b + a
+  distance-minus = omega (arith, far (negℤ (pos y) *ℤ pos b) (pos a), neg-times-parts (pos y) b, zero-mul b)
+
 -- ---- mirrored at 0
 
 module _ {n : ℤ} {b : ℕ} {z : ℤ} where

@@ -1,10 +1,10 @@
 //! The test program of Import and Export. A case starts with its kind: 1 is Import of a scale and the bit patterns of five doubles, 2 is
-//! Export of a mass and a scale, 3 is Export and then Import of what it gave, in every field at the same scale.
+//! Export of a mass and a scale, 3 is Export and then Import of what it gave, in every field at the same scale, 4 is Export in binary32.
 
 use crate::numbers::{each_case, Numbers};
 use crate::output;
 use crate::program::Program;
-use compare::doubles::{export, import};
+use compare::doubles::{export, export_single, import};
 
 /// A double's bit pattern; every NaN is the same.
 fn pattern(double: f64) -> String {
@@ -36,6 +36,10 @@ fn case(numbers: &mut Numbers) -> String {
                 Err(refusal) => output::refused(refusal),
             }
         }
+        4 => match export_single(numbers.word(), numbers.word()) {
+            Ok(single) => format!("single {}", single.to_bits()),
+            Err(refusal) => output::refused(refusal),
+        },
         _ => output::NO_KIND.to_string(),
     };
     line + "\n"

@@ -19,15 +19,19 @@ enum-told-4 : tie.Need-enum-told-4
 enum-told-4 c = search needs
 
 returns : tie.Need-returns
+unfolding addedNearest
 returns c = search needs
 
 returns-2 : tie.Need-returns-2
+unfolding addedNearest
 returns-2 c = search needs
 
 returns-3 : tie.Need-returns-3
+unfolding addedNearest
 returns-3 c = ap (λ (r : Rest). addedNearest (c .before .before .args .whole) r) (sym (c .enum-told3 .given .1))
 
 returns-4 : tie.Need-returns-4
+unfolding addedNearest
 returns-4 c = search needs
 
 pub added-nearest-spec : {M : Type 1} → statement M
