@@ -24,11 +24,13 @@
 // and the kit's `io`, `os` and `libc`.
 ghost use Prim.Native.Nat.{_≤_, _<_};
 ghost use lib.ListN.{length};
-ghost use Rattle.io.specs.Counts.{Counts};
 use input::FieldCase;
 use input::Lengths;
 use input::WriteCase;
 use numbers::arith::index;
+use test_support::files::last_digit;
+use test_support::files::load;
+use test_support::files::open_field;
 use test_support::input::later;
 use test_support::input::read_unsigned;
 use test_support::input::skip;
@@ -38,27 +40,7 @@ use test_support::output::show_no_kind;
 mod input;
 mod output;
 
-// The last digit of a number, as a byte of text.
-fn last_digit(x: u64) -> u8 {
-    b'0' + (x % 10) as u8
-}
-
-// Opens a field file of data/ by its number, and an answer file.
-fn open_field(number: u64) -> i32 {
-    let name = [
-        last_digit(number / 100),
-        last_digit(number / 10),
-        last_digit(number),
-        b'.',
-        b'f',
-        b'i',
-        b'e',
-        b'l',
-        b'd',
-    ];
-    os::open_read(&name)
-}
-
+// Opens an answer file of data/ by its number.
 fn open_answer(number: u64) -> i32 {
     let name = [
         last_digit(number / 100),
@@ -73,18 +55,6 @@ fn open_answer(number: u64) -> i32 {
         b'r',
     ];
     os::open_read(&name)
-}
-
-// Reads a file that was opened, if it could be, and returns how many bytes it has, or how many of them there is space for.
-fn load(fd: i32, space: &mut [u8]) -> usize
-    ensures { λ r. ⌜ Counts r (now (space .exit)) ⌝ }
-{
-    if fd < 0 {
-        output::show_no_file();
-    }
-    let n = io::read_full(fd, space);
-    libc::close(fd);
-    n
 }
 
 // Reads a field file into lists, and prints the line of the case.

@@ -6,7 +6,6 @@ use files_spec::AnswerRead;
 use files_spec::AnswerWritten;
 use files_spec::FieldRead;
 use files_spec::FieldWritten;
-use libc::STDOUT_FILENO;
 use numbers::arith::stored_index;
 use test_support::output::print_named;
 use test_support::output::print_number;
@@ -121,9 +120,4 @@ pub fn print_field(answer: FieldWritten) {
 pub fn print_payload(part: &[u8]) {
     print_named(b"payload", stored_index(part.len()));
     print_bytes(part);
-}
-
-// A line that says that a file is missing.
-pub fn show_no_file() {
-    io::write_all(STDOUT_FILENO, b"no such file\n");
 }

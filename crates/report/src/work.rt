@@ -42,7 +42,7 @@ fn put_report_with(
         scratch,
     );
     match answer {
-        FileRepaired::Refused { number, place } => put_refusal(out, number, place),
+        FileRepaired::Refused { number, place } => put_refusal(out, number, place, b'\n'),
         FileRepaired::Done { cells, repair } => put_listing(
             out,
             repair,

@@ -4,31 +4,11 @@
 // many shapes in all three outcomes, and files that are refused, by Reconstruct or in reading. Of a file at most 18,433 bytes are read, one
 // more than the largest has. The report is written to a buffer of 16,384 bytes: the listing, or the line of the file's refusal. The last
 // line is a refusal of the operation itself: file 0 once more, with a buffer that is a byte too short.
-// Relies on `report`, which it tests, `text`, `test_support`, and the kit's `io`, `os` and `libc`.
+// Relies on `report`, which it tests, `text`, `test_support`, and the kit's `io` and `libc`.
 use libc::STDOUT_FILENO;
+use test_support::files::open_field;
 use test_support::output::show_refusal;
 use text::Reported;
-
-// The last digit of a number, as a byte of text.
-fn last_digit(x: u64) -> u8 {
-    b'0' + (x % 10) as u8
-}
-
-// Opens a file of data/ by its number.
-fn open(number: u64) -> i32 {
-    let name = [
-        last_digit(number / 100),
-        last_digit(number / 10),
-        last_digit(number),
-        b'.',
-        b'f',
-        b'i',
-        b'e',
-        b'l',
-        b'd',
-    ];
-    os::open_read(&name)
-}
 
 // Reports a file's bytes in a buffer, and prints the text.
 fn print_report(file: &[u8], out: &mut [u8]) {
@@ -60,7 +40,7 @@ fn print_short(fd: i32) {
 
 // The report of the file with a number. Returns whether there is such a file.
 fn run_file(number: u64) -> bool {
-    let fd = open(number);
+    let fd = open_field(number);
     if fd < 0 {
         return false;
     }
@@ -81,7 +61,7 @@ fn run_all() {
 // All reports, and then file 0 with the short buffer.
 fn main() {
     run_all();
-    let fd = open(0);
+    let fd = open_field(0);
     print_short(fd);
     libc::close(fd);
 }

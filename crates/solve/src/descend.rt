@@ -5,7 +5,7 @@ ghost use lib.ListN.{length};
 ghost use Rattle.numbers.specs.Lists.{at};
 ghost use Rattle.scratch_spec.specs.Columns.{width, FIRST, num};
 ghost use Rattle.qlt_spec.specs.Tree.{Valid};
-ghost use Rattle.solve_spec.specs.Descent.{Linked, SameData, Descending, Descended};
+ghost use Rattle.solve_spec.specs.Descent.{Linked, SameData, Descending, DownTo};
 use crate::load::wide;
 use numbers::arith::magnitude;
 use numbers::arith::stored_index;
@@ -35,17 +35,17 @@ pub fn link(parents: &[u32], m: usize, s: &mut [i64])
     }
 }
 
-// Splits each inner node's mass among its children: the masses of all nodes take their targets' place, and the root's is given. Gives the sum
-// of the sizes of d.
-pub fn descend(parents: &[u32], n: usize, m: usize, s: &mut [i64]) -> u64
-    requires { ⌜ m ≤ length (now parents) ⌝ }
-    requires { ⌜ Descending (at (now parents)) n m (now s) ⌝ }
-    ensures { λ r. ⌜ Descended (at (now (parents .entry))) n m (now (s .entry)) (now (s .exit)) r ⌝ }
+// Splits the mass of each inner node from k on among its children: their masses take their targets' place, and the root's is given. Gives
+// the sum of the sizes of d.
+pub fn descend(parents: &[u32], k: usize, m: usize, s: &mut [i64]) -> u64
+    requires { ⌜ (k ≤ m) × (m ≤ length (now parents)) ⌝ }
+    requires { ⌜ ((n : ℕ) × ((n ≤ k) × Descending (at (now parents)) n m (now s))) ⌝ }
+    ensures { λ r. ⌜ DownTo (at (now (parents .entry))) k m (now (s .entry)) (now (s .exit)) r ⌝ }
 {
     link(parents, m, s);
     let mut v = m;
     let mut shared: u64 = 0;
-    while n < v {
+    while k < v {
         v -= 1;
         let d = split_group(s, m, v);
         shared += magnitude(d);

@@ -22,7 +22,7 @@ use Rattle.qlt_spec.proofs.TreeLaws.{child-yes, child-other, child-up, child-lo
 use Rattle.qlt_spec.specs.Masses.{sharedOf}
 use Rattle.qlt_spec.proofs.MassLaws.{mass-root, mass-up}
 use Rattle.qlt_spec.proofs.SharedLaws.{shared-first, shared-none, shared-most}
-use Rattle.solve_spec.specs.Descent.{Linked, SameData, groupBy, massIn, sharedIn, Planned, Descended, DescendState}
+use Rattle.solve_spec.specs.Descent.{Linked, SameData, groupBy, massIn, sharedIn, Planned, Descended, DescendState, DownTo}
 use Rattle.solve_spec.proofs.LinkLaws.{root-none, linked-has, linked-rising, linked-kept}
 
 -- a tree that breaks no rule for n cells breaks none for one cell; linking asks no more
@@ -94,10 +94,9 @@ module _ {up : ℕ → ℕ} {n m : ℕ} {s : List ℤ} (plan : Planned up n m s)
   ok : Valid up n m
   ok = plan .valid
 
-  pub down-start : DescendState up n m s m s 0
+  pub down-start : DescendState up m s m s 0
   down-start =
       record {
-        low = ok .room;
         within = omega arith;
         kept = kept-start MASS m s;
         top = plan .top;
@@ -106,7 +105,7 @@ module _ {up : ℕ → ℕ} {n m : ℕ} {s : List ℤ} (plan : Planned up n m s)
         shares = sym (shared-none m (λ w. groupBy up m w s) (massIn up m s) m (omega arith));
       }
 
-  module _ {v : ℕ} {new : List ℤ} {shared : ℕ} (st : DescendState up n m s v new shared) (l : n < v) where
+  module _ {v : ℕ} {new : List ℤ} {shared : ℕ} (st : DescendState up m s v new shared) (l : n < v) where
     abbrev pub node : ℕ
     node = v - 1
 
@@ -198,10 +197,9 @@ module _ {up : ℕ → ℕ} {n m : ℕ} {s : List ℤ} (plan : Planned up n m s)
           p .done u (omega arith) o ∙ ap pos (result-is u i e o)
       done-at u i j (no e) = p .same u (omega arith) (has-is u (omega arith) ∙ child-other up u node e) ∙ st .done u i (omega arith)
 
-      pub down-turn : DescendState up n m s node t (shared + size)
+      pub down-turn : DescendState up m s node t (shared + size)
       down-turn =
           record {
-            low = omega arith;
             within = omega (arith, node-in);
             kept = kept-on MASS m s new t (st .kept) (p .kept);
             top = p .same (m - 1) (omega (arith, node-in)) (has-is (m - 1) (omega (arith, node-in)) ∙ root-none ok node) ∙ st .top;
@@ -210,21 +208,26 @@ module _ {up : ℕ → ℕ} {n m : ℕ} {s : List ℤ} (plan : Planned up n m s)
             shares = shared-is ps;
           }
 
-  pub down-end : {v : ℕ} {new : List ℤ} {shared : ℕ} → DescendState up n m s v new shared → v ≤ n → (u : ℕ) → u < m → col MASS new u ≡ pos (massIn up m s u)
+  pub down-end : {v : ℕ} {new : List ℤ} {shared : ℕ} → DescendState up m s v new shared → v ≤ n → (u : ℕ) → u < m → col MASS new u ≡ pos (massIn up m s u)
   down-end {v} {new} st h u l = go (ℕ-discrete u (m - 1))
     where
       go : Dec (u ≡ m - 1) → col MASS new u ≡ pos (massIn up m s u)
       go (yes e) = ap (col MASS new) e ∙ st .top ∙ sym (ap pos (ap (massIn up m s) e ∙ mass-top ok s))
       go (no e) = st .done u (omega arith) (omega (arith, ok .inner u (omega arith)))
 
--- the whole: linked, then split
-pub descended :
-    {up : ℕ → ℕ} {n m v : ℕ} {s t new : List ℤ} {shared : ℕ} → Planned up n m s → SameData m s t → Linked up m 0 t → DescendState up n m t v new shared → v ≤ n
-    → Descended up n m s new shared
-descended {up} {n} {m} {v} {s} {t} plan same links st h =
+-- linked, then split down to k, where the last turn left off
+pub down-to :
+    {up : ℕ → ℕ} {k m v : ℕ} {s t new : List ℤ} {shared : ℕ} → SameData m s t → Linked up m 0 t → DescendState up m t v new shared → v ≡ k
+    → DownTo up k m s new shared
+down-to {up} {k} {m} {v} {s} {t} {new} {shared} same links st e =
+    record { linked = t; links = links; same = same; state = subst (λ i. DescendState up m t i new shared) e st }
+
+-- the whole: down to the cells
+pub descended : {up : ℕ → ℕ} {n m : ℕ} {s new : List ℤ} {shared : ℕ} → Planned up n m s → DownTo up n m s new shared → Descended up n m s new shared
+descended {n = n} plan d =
     record {
-      long = st .kept .long ∙ same .long;
-      far = λ i l. st .kept .far i l ∙ same .far i l;
-      masses = λ u l. down-end (planned-same plan same) links st h u l ∙ ap pos (mass-same plan same u);
-      shares = let e : v ≡ n = omega (arith, st .low) in st .shares ∙ ap (λ k. sharedIn up k m t) e ∙ shared-same plan same n;
+      long = d .state .kept .long ∙ d .same .long;
+      far = λ i l. d .state .kept .far i l ∙ d .same .far i l;
+      masses = λ u l. down-end (planned-same plan (d .same)) (d .links) (d .state) (omega arith) u l ∙ ap pos (mass-same plan (d .same) u);
+      shares = d .state .shares ∙ shared-same plan (d .same) n;
     }

@@ -24,10 +24,11 @@ use Rattle.qlt_spec.proofs.MassLaws.{InBounds, mass-root, mass-up}
 use Rattle.qlt_spec.proofs.SharedLaws.{shared-ext}
 use Rattle.qlt_spec.proofs.BetweenLaws.{between-in, between-can}
 use Rattle.solve_spec.specs.Gather.{Loaded}
-use Rattle.solve_spec.specs.Descent.{groupBy, massIn, sharedIn, Descending, Descended}
+use Rattle.solve_spec.specs.Descent.{groupBy, massIn, sharedIn, Descending, Descended, DownTo}
 use Rattle.solve_spec.specs.Solve.{nodeOf, targetOf, nodeGroup, massOf, Solvable, Prepared, Solved}
 use Rattle.solve_spec.proofs.UpLaws.{node-pos, node-most}
 use Rattle.solve_spec.proofs.GatherLaws.{cleared-ext}
+use Rattle.solve_spec.proofs.DescentLaws.{descended}
 
 -- masses go by what each node gives to its children
 mass-ext :
@@ -206,7 +207,10 @@ module _ {parents : List ℕ} {targets : List ℤ} {lows highs weights : List �
             (massIn (at parents) m t v)
             ∙ ap (deficit (group v)) (mass-is v l)
 
-    module _ {new : List ℤ} {shared : ℕ} (d : Descended (at parents) n m t new shared) where
+    module _ {new : List ℤ} {shared : ℕ} (down : DownTo (at parents) n m t new shared) where
+      d : Descended (at parents) n m t new shared
+      d = descended (descending .plan) down
+
       pub long-end : length new ≡ length s
       long-end = d .long ∙ p .long
 

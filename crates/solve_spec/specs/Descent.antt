@@ -69,6 +69,7 @@ pub record Descending (up : ℕ → ℕ) (n m : ℕ) (s : List ℤ) : Type 0 whe
   pub plan : Planned up n m s
   pub heads : (v : ℕ) → v < m → num FIRST s v ≡ m
 
+-- what the splits of all inner nodes leave
 pub record Descended (up : ℕ → ℕ) (n m : ℕ) (old new : List ℤ) (shared : ℕ) : Type 0 where
   pub long : length new ≡ length old
   pub far : (i : ℕ) → width * m ≤ i → atℤ new i ≡ atℤ old i
@@ -77,11 +78,17 @@ pub record Descended (up : ℕ → ℕ) (n m : ℕ) (old new : List ℤ) (shared
 
 -- before the turn at v − 1: the nodes from v on are split, so their children have their masses, and all other nodes but the root have their targets;
 -- `shared` is what these splits share out
-pub record DescendState (up : ℕ → ℕ) (n m : ℕ) (s : List ℤ) (v : ℕ) (new : List ℤ) (shared : ℕ) : Type 0 where
-  pub low : n ≤ v
+pub record DescendState (up : ℕ → ℕ) (m : ℕ) (s : List ℤ) (v : ℕ) (new : List ℤ) (shared : ℕ) : Type 0 where
   pub within : v ≤ m
   pub kept : OnlyColumn MASS m s new
   pub top : col MASS new (m - 1) ≡ pos (num MASS s (m - 1))
   pub done : (u : ℕ) → u < m - 1 → v ≤ up u → col MASS new u ≡ pos (massIn up m s u)
   pub todo : (u : ℕ) → u < m - 1 → up u < v → col MASS new u ≡ col MASS s u
   pub shares : shared ≡ sharedIn up v m s
+
+-- the inner nodes from k on are split, along the chains that stand in `linked`
+pub record DownTo (up : ℕ → ℕ) (k m : ℕ) (old new : List ℤ) (shared : ℕ) : Type 0 where
+  pub linked : List ℤ
+  pub links : Linked up m 0 linked
+  pub same : SameData m old linked
+  pub state : DescendState up m linked k new shared

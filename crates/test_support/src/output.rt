@@ -61,6 +61,11 @@ pub fn show_no_kind() {
     io::write_all(STDOUT_FILENO, b"no such kind\n");
 }
 
+// A line that says that a file is missing.
+pub fn show_no_file() {
+    io::write_all(STDOUT_FILENO, b"no such file\n");
+}
+
 // The sum of masses.
 fn sum(xs: &[u32]) -> u64
     requires { ⌜ length (now xs) ≤ 600 ⌝ }

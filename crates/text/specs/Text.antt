@@ -42,9 +42,13 @@ space = 32
 abbrev pub newline : ℕ
 newline = 10
 
--- what is printed of a refusal ('Examples' of 01): `refused`, number, place
-unfoldable pub refusalLine : ℕ → ℕ → List ℕ
-refusalLine refusal place = named (ascii "refused ") refusal space ++ number place newline
+-- what is printed of a refusal ('Examples' of 01): `refused`, number, place; and the byte after it
+unfoldable pub refusalText : ℕ → ℕ → ℕ → List ℕ
+refusalText refusal place after = named (ascii "refused ") refusal space ++ number place after
+
+-- as a line of its own
+abbrev pub refusalLine : ℕ → ℕ → List ℕ
+refusalLine refusal place = refusalText refusal place newline
 
 -- ---- what digits mean
 

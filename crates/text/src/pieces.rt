@@ -1,7 +1,7 @@
 // Pieces of text, each put at a place, with the place after it as the result; and a whole text at the front of a lent list.
 ghost use Prim.Native.Nat.{_+_, _≤_, _<_, _^_};
 ghost use lib.ListN.{length};
-ghost use Rattle.text.specs.Text.{Put, digitsOf, number, signedNumber, named, refusalLine};
+ghost use Rattle.text.specs.Text.{Put, digitsOf, number, signedNumber, named, refusalText};
 ghost use Rattle.text.specs.Reports.{Reports};
 use crate::Reported;
 use numbers::Checked;
@@ -64,13 +64,13 @@ pub fn put_named(out: &mut [u8], at: usize, word: &[u8], x: u64, after: u8) -> u
     put_number(out, end, x, after)
 }
 
-// The line of a refusal, from the start of a list.
-pub fn put_refusal(out: &mut [u8], number: u32, place: u32) -> usize
+// Puts a refusal at the start of a list, and the byte `after`.
+pub fn put_refusal(out: &mut [u8], number: u32, place: u32, after: u8) -> usize
     requires { ⌜ 64 ≤ length (now out) ⌝ }
-    ensures { λ r. ⌜ Put (now (out .entry)) (now (out .exit)) 0 r (refusalLine number place) × (r ≤ 64) ⌝ }
+    ensures { λ r. ⌜ Put (now (out .entry)) (now (out .exit)) 0 r (refusalText number place after) × (r ≤ 64) ⌝ }
 {
     let a = put_named(out, 0, b"refused ", number as u64, b' ');
-    put_number(out, a, place as u64, b'\n')
+    put_number(out, a, place as u64, after)
 }
 
 // Writes a whole text to the front of a lent list, which has to have the room.

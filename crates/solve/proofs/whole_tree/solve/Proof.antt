@@ -21,7 +21,9 @@ prepare-requires : tie.Need-prepare-requires
 prepare-requires c κs = search needs
 
 descend-requires : tie.Need-descend-requires
-descend-requires c κs = (omega arith, descending (c .before .before .before .before .before .before .before .before .before .pre .0) (c .before .before .prepare .ensures))
+descend-requires c κs =
+    let s = c .before .before .before .before .before .before .before .before .before in
+    ((s .pre .0 .valid .room, omega arith), (length (s .args .targets .now), (omega arith, descending (s .pre .0) (c .before .before .prepare .ensures))))
 
 take-out-requires : tie.Need-take-out-requires
 take-out-requires c κs =

@@ -1,7 +1,7 @@
--- `text::pieces::put_refusal` meets its contract: the named number and the place after it are the line.
+-- `text::pieces::put_refusal` meets its contract: the named number and the place after it are the text.
 use native.Mathlib.Omega.{arith}
 use Rattle.text.proofs.TextLaws.{then}
-use Rattle.text.specs.Text.{refusalLine}
+use Rattle.text.specs.Text.{refusalText}
 use borrow.Author.Needs.{needs}
 use Rattle.text.proofs.pieces.put_refusal.Statement.{statement}
 use Rattle.text.proofs.pieces.put_refusal.Tie as tie
@@ -19,7 +19,7 @@ same-length : tie.Need-same-length
 same-length c = search needs
 
 returns : tie.Need-returns
-unfolding refusalLine
+unfolding refusalText
 returns c =
     let p = c .before .before .before .before .before .before .put-named in
     let q = c .before .before .put-number in
