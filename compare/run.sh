@@ -2,12 +2,12 @@
 # Builds the comparison program against the proved library and runs it: run.sh [SCALE], a percentage of the usual number of inputs. With a
 # small SCALE not every refusal may occur, and then it fails.
 # `run.sh benchmark` measures the library against the second implementation instead, `run.sh drift` how far mass drifts towards high cell
-# numbers under the library's rounding. Library and program are taken from ../target.
+# numbers under the library's rounding. Library and programs are taken from ../target.
 set -eu
 cd "$(dirname "$0")"
 target=$(cd ../target && pwd)
 library=$target/staticlib
-program=$target/bin/legzhuro
+programs=$target/bin
 # The library's checksum is among the flags, so that another library means another build.
 sum=$(cksum <"$library/liblegzhuro_c.a" | tr ' ' '-')
 RUSTFLAGS="-L native=$library -C metadata=$sum"
@@ -24,4 +24,4 @@ if [ "${1:-}" = drift ]; then
 fi
 # All programs, so that those which only measure go on building.
 cargo build --release --features library --bins --offline --quiet
-exec "$CARGO_TARGET_DIR/release/compare" "$program" "$@"
+exec "$CARGO_TARGET_DIR/release/compare" "$programs" ../crates "$@"

@@ -13,7 +13,9 @@ use crate::random::{self, Random};
 use crate::shared::shared_by_masses;
 use crate::tally::Tally;
 use crate::tree::{Field, Repair, Workspace};
+use std::ffi::OsStr;
 use std::io::{Read, Write};
+use std::os::unix::ffi::OsStrExt;
 use std::path::Path;
 use std::process::{Command, Stdio};
 
@@ -39,6 +41,15 @@ pub fn make_file(random: &mut Random) -> Vec<u8> {
     file
 }
 
+/// The number of cells that block 1 of a field file or an answer file tells, 512 if it is more; 1 if the block is not whole.
+pub fn told_cells(file: &[u8]) -> usize {
+    if file.len() < BLOCK {
+        1
+    } else {
+        word(file, 2).min(512) as usize
+    }
+}
+
 /// Runs both sides on an answer buffer of the length given.
 pub fn compare_file(tally: &mut Tally, workspace: &mut FileWorkspace, random: &mut Random, file: &[u8], length: usize) {
     let mut mine: Vec<u8> = (0..length).map(|_| random.bits() as u8).collect();
@@ -59,7 +70,7 @@ pub fn files(tally: &mut Tally, random: &mut Random, count: u64) {
     let mut workspace = FileWorkspace::default();
     for _ in 0..count {
         let file = make_file(random);
-        let exact = answer_file_length(if file.len() < BLOCK { 1 } else { word(&file, 2).min(512) as usize });
+        let exact = answer_file_length(told_cells(&file));
         let length = match random.below(10) {
             0..=4 => exact,
             5 | 6 => exact + random.index(700),
@@ -71,9 +82,14 @@ pub fn files(tally: &mut Tally, random: &mut Random, count: u64) {
     }
 }
 
-/// What the program prints for a file on its standard input.
-fn run_program(program: &Path, file: &[u8]) -> std::io::Result<Vec<u8>> {
-    let mut child = Command::new(program).stdin(Stdio::piped()).stdout(Stdio::piped()).spawn()?;
+/// What a program prints for its arguments and a file on its standard input.
+pub fn printed(program: &Path, arguments: &[Vec<u8>], file: &[u8]) -> Vec<u8> {
+    run_program(program, arguments, file).unwrap_or_else(|error| panic!("{}: {error}", program.display()))
+}
+
+fn run_program(program: &Path, arguments: &[Vec<u8>], file: &[u8]) -> std::io::Result<Vec<u8>> {
+    let arguments = arguments.iter().map(|argument| OsStr::from_bytes(argument));
+    let mut child = Command::new(program).args(arguments).stdin(Stdio::piped()).stdout(Stdio::piped()).spawn()?;
     // The program may stop reading a file that is too long, so a failing write is no difference.
     let _ = child.stdin.take().expect("a pipe").write_all(file);
     let mut text = Vec::new();
@@ -88,7 +104,7 @@ pub fn listings(tally: &mut Tally, random: &mut Random, program: &Path, count: u
         let file = make_file(random);
         tally.outcome(&repair_file(&mut workspace, &file).map(|repaired| repaired.repair.outcome));
         let expected = listing(&mut workspace, &file);
-        let got = run_program(program, &file).unwrap_or_else(|error| panic!("{}: {error}", program.display()));
+        let got = printed(program, &[], &file);
         tally.input(expected.as_bytes() == got, || {
             format!("program on {file:?}: second implementation\n{expected}program\n{}", String::from_utf8_lossy(&got))
         });
@@ -234,7 +250,7 @@ struct ReadCall {
 /// An answer file to be read into lists that may be too short for it, or longer than it needs.
 fn make_read(random: &mut Random) -> ReadCall {
     let file = make_answer(random);
-    let needed = if file.len() < BLOCK { 1 } else { word(&file, 2).min(512) as usize };
+    let needed = told_cells(&file);
     let length = match random.below(10) {
         0..=5 => needed,
         6 | 7 => needed + random.index(40),

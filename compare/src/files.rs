@@ -331,9 +331,9 @@ pub fn read_answer(file: &[u8], masses: &mut [u32]) -> Result<AnswerHeader, Refu
 
 /// Working space of the call on a field file, used again from call to call. Its lists have room for every field.
 pub struct FileWorkspace {
-    tree: Workspace,
+    pub tree: Workspace,
     scratch: Vec<i64>,
-    field: Field,
+    pub field: Field,
     masses: Vec<u32>,
 }
 
@@ -358,6 +358,11 @@ pub struct RepairedFile<'a> {
 /// Reads a field file and reconstructs.
 pub fn repair_file<'a>(workspace: &'a mut FileWorkspace, file: &[u8]) -> Result<RepairedFile<'a>, Refusal> {
     let header = read_field(file, &mut workspace.field)?;
+    repair_read(workspace, header)
+}
+
+/// Reconstructs from the field that was read into the workspace.
+pub fn repair_read(workspace: &mut FileWorkspace, header: FieldHeader) -> Result<RepairedFile<'_>, Refusal> {
     let lists: Lists = workspace.field.lists().first(header.cells, header.nodes);
     let masses = &mut workspace.masses[..header.cells];
     let repair = reconstruct(&mut workspace.tree, &lists, header.total, masses, &mut workspace.scratch)?;

@@ -1,7 +1,8 @@
-//! A second implementation of the paper 01 and of tickets 1 to 5 of 02 (`split`, `tree`, `operations`, `doubles`, `files`, `listing`),
-//! written from the papers alone and sharing no code with the proved library, and, with the feature `library`, what compares the library
-//! with it: the calls from C (`calls`, and `from_c` for the second implementation's side), inputs (`random`, `damage`), and the checks that
-//! the comparison program runs (`tally`, `shared` and `check_...`).
+//! A second implementation of the paper 01 and of tickets 1 to 6 of 02 (`split`, `tree`, `operations`, `doubles`, `files`, `listing`,
+//! `query`), written from the papers alone and sharing no code with the proved library; the files of the test programs (`program`,
+//! `numbers`, `query_cases`); and, with the feature `library`, what compares the library with it: the calls from C (`calls`, and `from_c`
+//! for the second implementation's side), inputs (`random`, `damage`), and the checks that the comparison program runs (`tally`, `shared`
+//! and `check_...`).
 
 #[cfg(feature = "library")]
 pub mod calls;
@@ -14,13 +15,19 @@ pub mod check_files;
 #[cfg(feature = "library")]
 pub mod check_published;
 #[cfg(feature = "library")]
+pub mod check_query;
+#[cfg(feature = "library")]
 pub mod check_run;
 pub mod damage;
 pub mod doubles;
 pub mod files;
 pub mod from_c;
 pub mod listing;
+pub mod numbers;
 pub mod operations;
+pub mod program;
+pub mod query;
+pub mod query_cases;
 pub mod random;
 #[cfg(feature = "library")]
 pub mod shared;

@@ -1,16 +1,16 @@
-//! The comparison program: compares the proved library, through its calls from C, and the program with the second implementation in this
-//! package. Usage: `compare PROGRAM [SCALE]`; PROGRAM is the path of the program, SCALE multiplies the numbers of inputs (in percent,
-//! 100 if not given). Exits with status 0 only if nothing differs and every refusal and outcome that a call can give has occurred in its
-//! part; with a small SCALE that may fail.
+//! The comparison program: compares the proved library, through its calls from C, and the programs with the second implementation in this
+//! package. Usage: `compare PROGRAMS CRATES [SCALE]`; PROGRAMS is the folder of the programs, CRATES that of the crates, SCALE multiplies
+//! the numbers of seeded inputs (in percent, 100 if not given). Exits with status 0 only if nothing differs and every refusal and outcome
+//! that a call can give has occurred in its part; with a small SCALE that may fail.
 
 use compare::random::Random;
 use compare::tally::Tally;
-use compare::{check_calls, check_examples, check_files, check_published, check_run};
+use compare::{check_calls, check_examples, check_files, check_published, check_query, check_run};
 use std::path::Path;
 
 const SEED: u64 = 20190525;
 
-// The refusals that a call can give, after the section "Operations and what each turns down" of 01 and tickets 1, 2 and 5 of 02, in its
+// The refusals that a call can give, after the section "Operations and what each turns down" of 01 and tickets 1, 2, 5 and 6 of 02, in its
 // order of checks. From C a list that is too short for what a call gives counts under 3.
 const SPLIT: [usize; 6] = [1, 3, 5, 6, 7, 8];
 const OPEN: [usize; 3] = [3, 1, 13];
@@ -29,6 +29,8 @@ const READ_ANSWER: [usize; 6] = [14, 15, 16, 1, 3, 12];
 const ROUND_TRIP: [usize; 5] = [4, 5, 6, 7, 8];
 // Import of one double, at scales in range.
 const CLASSES: [usize; 2] = [10, 11];
+// The tool that queries a cell: reading, the cell's number, Reconstruct.
+const QUERY: [usize; 11] = [14, 15, 16, 1, 2, 3, 4, 5, 6, 7, 8];
 // Those of 01's examples.
 const EXAMPLES: [usize; 3] = [4, 8, 11];
 // Steps by valid fields to any total, and splits with nothing broken.
@@ -38,11 +40,12 @@ const OUTCOMES: [usize; 3] = [0, 1, 2];
 
 fn main() {
     let arguments: Vec<String> = std::env::args().collect();
-    let Some(program) = arguments.get(1) else {
-        println!("usage: compare PROGRAM [SCALE]");
+    let [_, programs, crates, ..] = arguments.as_slice() else {
+        println!("usage: compare PROGRAMS CRATES [SCALE]");
         std::process::exit(2);
     };
-    let percent: u64 = arguments.get(2).map_or(100, |text| text.parse().expect("SCALE is a whole number"));
+    let (programs, crates) = (Path::new(programs), Path::new(crates));
+    let percent: u64 = arguments.get(3).map_or(100, |text| text.parse().expect("SCALE is a whole number"));
     let scaled = |count: u64| count * percent / 100;
     let (mut tally, mut random) = (Tally::default(), Random::new(SEED));
 
@@ -60,7 +63,7 @@ fn main() {
     tally.end_part("export", &EXPORT, &[]);
     check_files::files(&mut tally, &mut random, scaled(150_000));
     tally.end_part("file", &FILE, &OUTCOMES);
-    check_files::listings(&mut tally, &mut random, Path::new(program), scaled(4_000));
+    check_files::listings(&mut tally, &mut random, &programs.join("legzhuro"), scaled(4_000));
     tally.end_part("program", &PROGRAM, &OUTCOMES);
     for (cells, steps) in [(24, check_run::FOUR_YEARS), (512, 10_000)] {
         check_run::run(&mut tally, &mut random, cells, scaled(steps));
@@ -78,6 +81,11 @@ fn main() {
     tally.end_part("import by class", &CLASSES, &[]);
     check_calls::singles(&mut tally, &mut random, scaled(200_000));
     tally.end_part("export single", &EXPORT, &[]);
+    let tool = programs.join("legzhuro_query");
+    check_query::stored(&mut tally, &tool, crates);
+    tally.end_part("stored queries", &QUERY, &OUTCOMES);
+    check_query::queries(&mut tally, &mut random, &tool, scaled(4_000));
+    tally.end_part("query", &QUERY, &OUTCOMES);
 
     if !tally.passes() {
         std::process::exit(1);

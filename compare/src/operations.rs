@@ -50,7 +50,7 @@ pub fn split(targets: &[i64], lows: &[i64], highs: &[i64], weights: &[i64], tota
     }
     let mut items: Vec<Item> =
         (0..count).map(|item| Item { target: targets[item], low: lows[item], high: highs[item], weight: weights[item], mass: 0 }).collect();
-    let difference = share_out(&mut items, total);
+    let difference = share_out(&mut items, total, |_| ());
     for (mass, item) in masses.iter_mut().zip(&items) {
         *mass = item.mass;
     }

@@ -15,17 +15,24 @@ pub struct Item {
     pub mass: i64,
 }
 
-/// Gives each item its mass. Returns d, signed.
-pub fn share_out(items: &mut [Item], total: i64) -> i64 {
+/// Gives each item its mass. Returns d, signed. `watch` is shown the items three times: clipped, with their first shares, and with both.
+pub fn share_out(items: &mut [Item], total: i64, mut watch: impl FnMut(&[Item])) -> i64 {
     let difference = total - clip(items);
-    if difference > 0 {
-        let left = by_weights(items, difference, 1);
-        by_capacities(items, left, 1);
-    } else if difference < 0 {
-        let left = by_weights(items, -difference, -1);
-        by_capacities(items, left, -1);
+    watch(items);
+    if difference < 0 {
+        both_passes(items, -difference, -1, watch);
+    } else {
+        both_passes(items, difference, 1, watch);
     }
     difference
+}
+
+/// Steps 3 and 4 for d of this size and sign.
+fn both_passes(items: &mut [Item], size: i64, sign: i64, mut watch: impl FnMut(&[Item])) {
+    let left = by_weights(items, size, sign);
+    watch(items);
+    by_capacities(items, left, sign);
+    watch(items);
 }
 
 /// Step 1: every mass is the clipped target. Returns their sum.
@@ -60,6 +67,9 @@ pub fn rounded(a: i64, b: i64) -> i64 {
 
 /// Step 3: shares `size` out by weights and returns what is left of it.
 fn by_weights(items: &mut [Item], size: i64, sign: i64) -> i64 {
+    if size == 0 {
+        return 0;
+    }
     let weights: i64 = items.iter().map(|item| item.weight).sum();
     if weights == 0 {
         return size;

@@ -93,11 +93,18 @@ impl Tally {
     /// What can be given must occur, and nothing else may.
     fn look_for(&mut self, name: &str, what: &str, given: &[usize], counts: &[u64]) {
         for (index, &count) in counts.iter().enumerate() {
-            if given.contains(&index) && count == 0 {
-                self.missing.push(format!("{name}: {what} {index} did not occur"));
-            } else if !given.contains(&index) && count > 0 {
+            if given.contains(&index) {
+                self.must_occur(&format!("{name}: {what} {index}"), count);
+            } else if count > 0 {
                 self.difference(format!("{name}: {what} {index} occurred, which its calls cannot give"));
             }
+        }
+    }
+
+    /// Notes that something did not occur, if so.
+    pub fn must_occur(&mut self, what: &str, count: u64) {
+        if count == 0 {
+            self.missing.push(format!("{what} did not occur"));
         }
     }
 

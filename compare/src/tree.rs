@@ -1,5 +1,5 @@
-//! The tree of a field and the masses of its cells, after the sections "The field" and "The whole tree" of 01 and ticket 2 of 02. Written
-//! from the papers alone; shares no code with the library.
+//! The tree of a field and the masses of its cells, after the sections "The field" and "The whole tree" of 01 and tickets 2 and 6 of 02.
+//! Written from the papers alone; shares no code with the library.
 
 use crate::split::{share_out, Item};
 
@@ -173,15 +173,15 @@ fn link_children(workspace: &mut Workspace, parents: &[u32]) {
     }
 }
 
-/// Splits a node's mass among its children. Returns the split's d.
-fn split_node(workspace: &mut Workspace, node: usize) -> i64 {
+/// Splits a node's mass among its children, shown to `watch` as in `share_out`. Returns the split's d.
+fn split_node(workspace: &mut Workspace, node: usize, watch: impl FnMut(&[Item])) -> i64 {
     workspace.children.clear();
     let mut child = workspace.first_child[node];
     while child != NONE {
         workspace.children.push(workspace.nodes[child as usize]);
         child = workspace.next_sibling[child as usize];
     }
-    let difference = share_out(&mut workspace.children, workspace.nodes[node].mass);
+    let difference = share_out(&mut workspace.children, workspace.nodes[node].mass, watch);
     let mut child = workspace.first_child[node];
     for item in &workspace.children {
         workspace.nodes[child as usize].mass = item.mass;
@@ -199,7 +199,7 @@ pub fn repair(workspace: &mut Workspace, lists: &Lists, total: u32, masses: &mut
     workspace.nodes[nodes - 1].mass = i64::from(total);
     let mut shared = 0;
     for node in (cells..nodes).rev() {
-        shared += split_node(workspace, node).unsigned_abs();
+        shared += split_node(workspace, node, |_| ()).unsigned_abs();
     }
     let mut change = 0;
     for (mass, item) in masses.iter_mut().zip(&workspace.nodes[..cells]) {
@@ -207,4 +207,14 @@ pub fn repair(workspace: &mut Workspace, lists: &Lists, total: u32, masses: &mut
         change += (item.mass - item.target).unsigned_abs();
     }
     Repair { outcome, total, change, shared }
+}
+
+/// The masses that a cell has on the way through the split at its parent: clipped, with its first share, and with both. The split is made
+/// once more, on what `repair` left in the workspace. The cell is not the root.
+pub fn masses_by_step(workspace: &mut Workspace, parents: &[u32], cell: usize) -> [i64; 3] {
+    let parent = parents[cell];
+    let place = parents[..cell].iter().filter(|&&other| other == parent).count();
+    let mut masses = Vec::new();
+    split_node(workspace, parent as usize, |children| masses.push(children[place].mass));
+    masses.try_into().expect("three masses")
 }

@@ -8,7 +8,7 @@ use Rattle.numbers.specs.Sums.{ℕ-adds, pick}
 use Rattle.numbers.specs.Quota.{quota}
 use Rattle.numbers.proofs.SumLaws.{sumTo-ext, pick-ext}
 use Rattle.caas_spec.specs.Group.{Group, Each, Splits, sumBefore, sumIn}
-use Rattle.caas_spec.specs.Split.{clip, clipped, deficit, surplus, room, capacity, portion, firstShare, remainder, left, secondShare, moved, shares, result}
+use Rattle.caas_spec.specs.Split.{clip, clipped, deficit, surplus, room, capacity, portion, firstShare, remainder, left, secondShare, moved, shares, result, afterFirst}
 use Rattle.caas_spec.proofs.PortionLaws.{first-is, second-is}
 
 module _ (G H : Group) (es : G .size ≡ H .size) (eh : (u : ℕ) → u < G .size → G .has u ≡ H .has u) where
@@ -69,6 +69,14 @@ module _ (G H : Group) (es : G .size ≡ H .size) (eh : (u : ℕ) → u < G .siz
         ∙ ap₂ _+_
         (first-ext ew (capacity G (deficit H M)) (capacity H (deficit H M)) (natAbs (deficit H M)) (capacity-ext (deficit H M)) u l e)
         (second-ext ew (capacity G (deficit H M)) (capacity H (deficit H M)) (natAbs (deficit H M)) (capacity-ext (deficit H M)) u l e)
+
+    pub after-ext : (M : ℕ) → Each G (λ u. afterFirst G M u ≡ afterFirst H M u)
+    unfolding afterFirst
+    after-ext M u l e =
+        ap (λ d. moved (surplus d) (clipped G u) (firstShare G (capacity G d) (natAbs d) u)) (deficit-ext M)
+        ∙ ap₂ (moved (surplus (deficit H M)))
+        (clipped-ext u l e)
+        (first-ext ew (capacity G (deficit H M)) (capacity H (deficit H M)) (natAbs (deficit H M)) (capacity-ext (deficit H M)) u l e)
 
     pub result-ext : (M : ℕ) → Each G (λ u. result G M u ≡ result H M u)
     unfolding result

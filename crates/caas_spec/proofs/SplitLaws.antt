@@ -13,9 +13,9 @@ use Rattle.numbers.specs.Roundings.{signed as withSign}
 use Rattle.numbers.proofs.TestLaws.{Tested, holds, fails, tested, clash}
 use Rattle.numbers.proofs.SignedLaws.{signed, one-part, neg-parts, minus-parts, abs-parts, parts-eq, ltZ-true, ltZ-false, over-min, over-max, minus-size, minus-up, minus-down, far-parts, over-whole, le-parts}
 use Rattle.caas_spec.specs.Group.{Group, Each, Splits, Within, Divides, distance, sumIn}
-use Rattle.caas_spec.specs.Split.{clip, clipped, deficit, surplus, room, capacity, moved, shares, result, portion, Proportional}
+use Rattle.caas_spec.specs.Split.{clip, clipped, deficit, surplus, room, capacity, firstOf, secondOf, moved, shares, result, afterFirst, portion, Proportional}
 use Rattle.caas_spec.proofs.GroupLaws.{in-ext, in-le, in-add, in-pos, in-gap}
-use Rattle.caas_spec.proofs.PortionLaws.{both-add, both-cap, unweighted, portion-near, portion-none}
+use Rattle.caas_spec.proofs.PortionLaws.{first-cap, both-add, both-cap, unweighted, portion-near, portion-none}
 
 -- ---- clipping
 
@@ -72,6 +72,11 @@ moved-back false low high x s e r = absurd (clash e refl)
 pub moved-shift : (down : Bool) (low high x s : ℕ) → s ≤ room down low high x → pos (moved down x s) -ℤ pos x ≡ withSign down s
 moved-shift true low high x s r = parts-eq (omega (arith, minus-parts (pos (x - s)) (pos x), neg-parts (pos s)))
 moved-shift false low high x s r = parts-eq (omega (arith, minus-parts (pos (x + s)) (pos x)))
+
+-- by two shares in turn, no further than the room for both
+pub moved-again : (down : Bool) (low high x s r : ℕ) → s + r ≤ room down low high x → pos (moved down x (s + r)) -ℤ pos (moved down x s) ≡ withSign down r
+moved-again true low high x s r h = parts-eq (omega (arith, minus-parts (pos (x - (s + r))) (pos (x - s)), neg-parts (pos r)))
+moved-again false low high x s r h = parts-eq (omega (arith, minus-parts (pos (x + (s + r))) (pos (x + s))))
 
 -- ---- numbers by sign and size
 
@@ -153,6 +158,12 @@ module _ (G : Group) (M : ℕ) (can : Splits G M) where
   unfolding result capacity
   result-within u l e = moved-within (surplus (deficit G M)) (G .low u) (G .high u) (clipped G u) (shares G M u) (clipped-within u l e .0) (clipped-within u l e .1) (shares-cap u l e)
 
+  -- so do the values after the first pass
+  pub after-within : Each G (λ u. (G .low u ≤ afterFirst G M u) × (afterFirst G M u ≤ G .high u))
+  unfolding afterFirst capacity
+  after-within u l e =
+      moved-within (surplus (deficit G M)) (G .low u) (G .high u) (clipped G u) _ (clipped-within u l e .0) (clipped-within u l e .1) (first-cap G cap D u)
+
   -- how far a result is from its clipped value
   pub result-gap : Each G (λ u. gap (result G M u) (clipped G u) ≡ shares G M u)
   unfolding result capacity
@@ -222,6 +233,15 @@ module _ (G : Group) (M : ℕ) (can : Splits G M) where
   result-shift : Each G (λ u. pos (result G M u) -ℤ pos (clipped G u) ≡ withSign (surplus (deficit G M)) (shares G M u))
   unfolding result capacity
   result-shift u l e = moved-shift (surplus (deficit G M)) (G .low u) (G .high u) (clipped G u) (shares G M u) (shares-cap u l e)
+
+  -- and step by step: what the first pass moves, and what the second does
+  pub first-shift : Each G (λ u. pos (afterFirst G M u) -ℤ pos (clipped G u) ≡ withSign (surplus (deficit G M)) (firstOf G M u))
+  unfolding afterFirst capacity
+  first-shift u l e = moved-shift (surplus (deficit G M)) (G .low u) (G .high u) (clipped G u) (firstOf G M u) (first-cap G cap D u)
+
+  pub second-shift : Each G (λ u. pos (result G M u) -ℤ pos (afterFirst G M u) ≡ withSign (surplus (deficit G M)) (secondOf G M u))
+  unfolding result afterFirst shares capacity
+  second-shift u l e = moved-again (surplus (deficit G M)) (G .low u) (G .high u) (clipped G u) (firstOf G M u) (secondOf G M u) (shares-cap u l e)
 
   pub result-proportional : sumIn ℕ-adds G (G .weight) ≡ 0 → Each G (λ u. Proportional G M (pos (result G M u)) u)
   result-proportional light u l e =

@@ -62,13 +62,22 @@ abbrev pub moved : (down : Bool) (x share : ℕ) → ℕ
 moved true x share = x - share
 moved false x share = x + share
 
+-- both shares of an item at the split of M
+abbrev pub firstOf : Group → ℕ → ℕ → ℕ
+firstOf G M u = firstShare G (capacity G (deficit G M)) (natAbs (deficit G M)) u
+
+abbrev pub secondOf : Group → ℕ → ℕ → ℕ
+secondOf G M u = secondShare G (capacity G (deficit G M)) (natAbs (deficit G M)) u
+
 unfoldable pub shares : Group → ℕ → ℕ → ℕ
-shares G M u =
-    firstShare G (capacity G (deficit G M)) (natAbs (deficit G M)) u
-    + secondShare G (capacity G (deficit G M)) (natAbs (deficit G M)) u
+shares G M u = firstOf G M u + secondOf G M u
 
 unfoldable pub result : Group → ℕ → ℕ → ℕ
 result G M u = moved (surplus (deficit G M)) (clipped G u) (shares G M u)
+
+-- what an item has after the first pass
+unfoldable pub afterFirst : Group → ℕ → ℕ → ℕ
+afterFirst G M u = moved (surplus (deficit G M)) (clipped G u) (firstOf G M u)
 
 -- the sum of the capacities: 01's C where all weights are 0
 abbrev pub allCapacity : Group → ℕ → ℕ

@@ -1,5 +1,5 @@
--- 01's starred examples hold: one fact over the whole table. The bytes of E1's file go by the law that what is written is read back; all else
--- is computed. Assumes nothing.
+-- 01's starred examples and that of ticket 6 of 02 hold: one fact over the whole table. The bytes of E1's file go by the law that what is
+-- written is read back; all else is computed. Assumes nothing.
 use mathlib.Core.Path.{_≡_, refl, _∙_, ap, ap₂}
 use mathlib.Core.List.{List, [], _∷_, map}
 use Prim.Native.Nat.{ℕ, zero, suc, _*_, _^_, _<_}
@@ -32,6 +32,9 @@ use Rattle.text.specs.Ascii.{ascii}
 use Rattle.text.specs.Text.{digitsOf, signedNumber}
 use Rattle.listing.specs.Listing.{headLine, cellLine, cellLines, listing}
 use Rattle.report.specs.Report.{textBy, reportText}
+use Rattle.query_spec.specs.Parts.{splitParts, cellParts}
+use Rattle.query_spec.specs.Query.{partsLine, queryText}
+use Rattle.query_spec.proofs.QueryLaws.{query-repaired, text-parts}
 use Rattle.examples_spec.specs.Starred.{gives, text, Row, rows, others, e1Lists}
 
 -- ---- the text for the file of a field that is accepted
@@ -46,6 +49,15 @@ text-of f M g e =
     let s = stored-lists f M g in
     ap (λ v. textBy v (fieldBytes f M)) (stored-verdict f M g ∙ e)
     ∙ rw (s .0, s .1 .0, s .1 .1 .1)
+
+-- the line for one of its cells
+query-of :
+    (f : Lists) (M cell : ℕ) → Storable f M → reconstructVerdict (callOf f M) ≡ Pass → cell < cells f
+    → queryText (fieldBytes f M) cell ≡ partsLine (outcomeNumber (outcome (field f) M)) (cellParts (field f) M cell)
+query-of f M cell g e l =
+    let s = stored-lists f M g in
+    text-parts (fieldBytes f M) cell (query-repaired (fieldBytes f M) cell .1 (stored-verdict f M g ∙ e, omega (arith, s .1 .0)))
+    ∙ rw (s .0, s .1 .1 .1)
 
 -- ---- E1
 
@@ -115,7 +127,14 @@ e1-listing = refl
 pub e1-text : reportText (fieldBytes e1Lists 16) ≡ ascii "outcome 0 cells 4 total 16 change 4\n0 0 2\n1 7 -2\n2 4 0\n3 5 0\n"
 e1-text = text-of e1Lists 16 storable e1-verdict ∙ e1-listing
 
--- ---- the rows after it
+e1-parts : partsLine (outcomeNumber (outcome (field e1Lists) 16)) (cellParts (field e1Lists) 16 1) ≡ ascii "outcome 0 clipping -1 first 0 second -1\n"
+unfolding sumTo minℤ maxℤ quota clip clipped deficit capacity portion firstShare remainder left secondShare shares result leads childOf nodeSum massFrom massAt outcome outcomeNumber lowIn highIn massBetween groupOf treeMass digitsOf signedNumber splitParts cellParts partsLine
+e1-parts = refl
+
+e1-query : queryText (fieldBytes e1Lists 16) 1 ≡ ascii "outcome 0 clipping -1 first 0 second -1\n"
+e1-query = query-of e1Lists 16 1 storable e1-verdict (omega arith) ∙ e1-parts
+
+-- ---- the rows after them
 rest : map (λ r. gives (r .asked)) others ≡ map (λ r. r .wanted) others
 unfolding sumTo listTo minℤ maxℤ quota eachFrom firstFrom everyFrom checkCount clip clipped deficit capacity portion firstShare remainder left
     secondShare shares result checkLengths caas.checkSplitOrder checkHighs checkWeights caas.checkSplitReach splitVerdict
@@ -126,4 +145,4 @@ rest = refl
 
 -- what the definitions give is what must be given, in every row
 pub starred : map (λ (r : Row). gives (r .asked)) rows ≡ map (λ (r : Row). r .wanted) rows
-starred = ap₂ _∷_ (ap text e1-text) rest
+starred = ap₂ _∷_ (ap text e1-text) (ap₂ _∷_ (ap text e1-query) rest)

@@ -1,3 +1,4 @@
 pub mod Starred
 pub mod Strays
 pub mod Singles
+pub mod Queries

@@ -1,5 +1,5 @@
 -- 01's starred examples, E1 to E10: what is asked, and what must be given, with d and what is shared out (ticket 2 of 02) and with the rounding
--- of ticket 3 of 02, by which E2 with M 2 and E4 give other masses than in 01. Assumes nothing.
+-- of ticket 3 of 02, by which E2 with M 2 and E4 give other masses than in 01; and the example of ticket 6 of 02. Assumes nothing.
 use mathlib.Core.List.{List, [], _∷_}
 use Prim.Native.Nat.{ℕ}
 use lib.IntN.{ℤ, pos, negsuc}
@@ -18,13 +18,15 @@ use Rattle.doubles_spec.specs.Import.{importVerdict, importUnits, carried}
 use Rattle.files_spec.specs.FieldFile.{fieldBytes}
 use Rattle.report.specs.Report.{reportText}
 use Rattle.text.specs.Ascii.{ascii}
+use Rattle.query_spec.specs.Query.{queryText}
 
--- ---- what is asked: a call of Split, of Reconstruct, of Import at scale 0, or the text for a field file's bytes
+-- ---- what is asked: a call of Split, of Reconstruct, of Import at scale 0, the text for a field file's bytes, or that for one of its cells
 pub data Asked : Type 0 where
   splits : SplitCall → Asked
   repairs : ReconstructCall → Asked
   imports : CellDoubles → Asked
   prints : List ℕ → Asked
+  queries : List ℕ → ℕ → Asked
 
 -- what is given: what the operation tells, with the masses that it leaves or the double that a refusal carries; or the text
 pub data Given : Type 0 where
@@ -41,6 +43,7 @@ gives (repairs c) =
     (after (reconstruct.reconstructVerdict c) (treeMasses (field (c .lists)) (c .total)) (c .masses))
 gives (imports d) = import (answered (importVerdict d 0) (importUnits d 0)) (carried (importVerdict d 0) d)
 gives (prints file) = text (reportText file)
+gives (queries file cell) = text (queryText file cell)
 
 -- ---- the calls; before each, every mass is 9 and every scratch number 1
 
@@ -59,7 +62,7 @@ e4 M parents =
     reconstructCall (lists (pos 3 ∷ pos 5 ∷ []) (3 ∷ 5 ∷ []) (4 ∷ 6 ∷ []) (replicate 2 0) (replicate 2 10) (replicate 2 0) parents)
     M (replicate 2 9) (replicate 18 (pos 1))
 
-abbrev e8 : ReconstructCall
+abbrev pub e8 : ReconstructCall
 e8 = reconstructCall (lists (pos 3 ∷ []) (0 ∷ []) (5 ∷ []) (0 ∷ []) (10 ∷ []) (0 ∷ []) (0 ∷ [])) 7 (9 ∷ []) (replicate 6 (pos 1))
 
 -- the double of a bit pattern; a target, a low and a high, with 0 in the other fields
@@ -89,6 +92,10 @@ row asked wanted = record { asked = asked; wanted = wanted }
 
 abbrev pub e1 : Row
 e1 = row (prints (fieldBytes e1Lists 16)) (text (ascii "outcome 0 cells 4 total 16 change 4\n0 0 2\n1 7 -2\n2 4 0\n3 5 0\n"))
+
+-- ticket 6 of 02: E1's cell 1
+abbrev pub e1Query : Row
+e1Query = row (queries (fieldBytes e1Lists 16) 1) (text (ascii "outcome 0 clipping -1 first 0 second -1\n"))
 
 abbrev pub others : List Row
 others =
@@ -120,4 +127,4 @@ others =
 
 -- the table
 abbrev pub rows : List Row
-rows = e1 ∷ others
+rows = e1 ∷ e1Query ∷ others

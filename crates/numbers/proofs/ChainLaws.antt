@@ -9,9 +9,9 @@ use lib.Dec.{eqb}
 use borrow.Author.Tests.{eqb-true, eq-eqb}
 use Rattle.numbers.specs.declared.Checked.{Checked}
 use Rattle.numbers.specs.declared.Checked.the-variants.{Pass, Fail}
-use Rattle.numbers.specs.Checks.{both, first, Rule, Broken, DecidesAll, rulesFrom, numbersOf, OneOf, RefuseWith, Extends}
+use Rattle.numbers.specs.Checks.{both, first, Rule, Holds, Broken, DecidesAll, rulesFrom, numbersOf, OneOf, RefuseWith, Extends}
 use Rattle.numbers.proofs.TestLaws.{clash, and-first, and-second}
-use Rattle.numbers.proofs.CheckLaws.{on, both-first, both-second, no-pass}
+use Rattle.numbers.proofs.CheckLaws.{on, both-first, both-second, no-pass, broken-append}
 
 -- ---- a chain that is another with checks of its own put in
 
@@ -81,9 +81,17 @@ unfolding OneOf
 one-is [] n h = absurd h
 one-is (k ∷ ks) n h = ⊎-elim (λ e. ap (λ b. b || isOne ks n) (eq-eqb n k e)) (λ g. ap (λ b. eqb n k || b) (one-is ks n g) ∙ or-true (eqb n k)) h
 
+-- a number that is none of a list's: `no-number ns k refl`
+pub no-number : (ns : List ℕ) (k : ℕ) → isOne ns k ≡ false → OneOf ns k → ⊥
+no-number ns k f h = clash (one-is ns k h) f
+
 -- rules are not broken with a number that none of them has: `not-broken rs k refl`
 pub not-broken : (rs : List Rule) (k : ℕ) → isOne (numbersOf rs) k ≡ false → (n p : ℕ) → n ≡ k → Broken rs n p → ⊥
-not-broken rs k f n p e h = clash (one-is (numbersOf rs) k (subst (OneOf (numbersOf rs)) e (broken-number rs n p h))) f
+not-broken rs k f n p e h = no-number (numbersOf rs) k f (subst (OneOf (numbersOf rs)) e (broken-number rs n p h))
+
+-- and with a number that none of the first has, these hold, and one of the others is broken
+pub broken-later : (rs ss : List Rule) (k p : ℕ) → (OneOf (numbersOf rs) k → ⊥) → Broken (rs ++ ss) k p → Holds rs × Broken ss k p
+broken-later rs ss k p f h = ⊎-elim (λ x. absurd (f (broken-number rs k p x))) (λ y. y) (broken-append rs ss k p .0 h)
 
 -- and with a number that the first alone has, the first is broken
 pub broken-first : (r : Rule) (rs : List Rule) (k : ℕ) → isOne (numbersOf rs) k ≡ false → (n p : ℕ) → n ≡ k → Broken (r ∷ rs) n p → r .fault p

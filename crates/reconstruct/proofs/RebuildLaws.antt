@@ -61,10 +61,10 @@ module _ (c : ReconstructCall) (ok : ReconstructFits c) (o : Outcome) (e : outco
   lens : FieldLengths f (length (c .masses)) (length (c .scratch))
   lens = ok .shape .lengths
 
-  lows-are : lowIn (outcome F (c .total)) F ≡ at (lowList o f)
+  pub lows-are : lowIn (outcome F (c .total)) F ≡ at (lowList o f)
   lows-are = ap (λ q. lowIn q F) e ∙ low-is o f
 
-  highs-are : highIn (outcome F (c .total)) F ≡ at (highList o f)
+  pub highs-are : highIn (outcome F (c .total)) F ≡ at (highList o f)
   highs-are = ap (λ q. highIn q F) e ∙ high-is o f
 
   -- the bounds in force have room for the total
@@ -106,7 +106,7 @@ module _ (c : ReconstructCall) (ok : ReconstructFits c) (o : Outcome) (e : outco
       }
 
   -- the masses that solving gives are those of the whole tree
-  mass-same : (i : ℕ) → massOf (f .parents) (f .targets) (lowList o f) (highList o f) (f .weights) (c .total) i ≡ treeMass F (c .total) i
+  pub mass-same : (i : ℕ) → massOf (f .parents) (f .targets) (lowList o f) (highList o f) (f .weights) (c .total) i ≡ treeMass F (c .total) i
   unfolding treeMass
   mass-same i = sym (ap₂ (λ lo hi. massBetween (F .up) (F .n) (F .m) (F .target) (F .weight) lo hi (c .total) i) lows-are highs-are)
 

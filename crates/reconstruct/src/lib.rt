@@ -1,12 +1,12 @@
-// The operation Reconstruct: the masses of a whole field for a total. Public: `reconstruct`; for Step `repair`, what an accepted call does.
-// Relies on `solve`, `field_checks`, `solve_spec`, `qlt_spec` and `numbers`.
+// The operation Reconstruct: the masses of a whole field for a total. Public: `reconstruct`; for Step `repair`, what an accepted call does;
+// for Query `verdict`, its checks. Relies on `solve`, `field_checks`, `solve_spec`, `qlt_spec` and `numbers`.
 ghost use Rattle.qlt_spec.specs.Field.{lists};
 ghost use Rattle.qlt_spec.specs.Operation.{reconstructCall, ReconstructContract};
 use numbers::Checked;
 use qlt_spec::Reconstructed;
 
 pub mod repair;
-mod verdict;
+pub mod verdict;
 mod work;
 
 // Rebuilds the masses of the field's cells so that they add up to `total`, and writes them; the scratch's first rows, one for each node,

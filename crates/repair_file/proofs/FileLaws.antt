@@ -151,19 +151,23 @@ module _ (file : List ℕ) (s : Lists) (roomy : Roomy s) where
     fit : ReadFits file s
     fit = read-done p .0
 
-    same-lists : fronts n m t ≡ fileLists file
+    -- the fronts of the lists that were read are the file's field
+    pub same-lists : fronts n m t ≡ fileLists file
     same-lists = let e = read-done p .1 in rw (e .0, e .1 .0, e .1 .1 .1) (fronts-read file s)
 
     module _ (masses : List ℕ) (scratch : List ℤ) (few : length masses ≡ 512) (wide : length scratch ≡ 6144) where
-      same-verdict : reconstructVerdict (frontCall n m M t masses scratch) ≡ fileVerdict file
-      same-verdict =
+      -- Reconstruct's verdict on them is that of the file's call
+      pub front-verdict : reconstructVerdict (frontCall n m M t masses scratch) ≡ reconstructVerdict (fileCall file)
+      front-verdict =
           let e = read-done p .1 in
           let z : scratchPerNode * nodes (fileLists file) ≤ 6144 = omega (arith, length-nodes file, fit .head .nodes-few) in
           let l : length (take n masses) ≡ fileCells file = length-take-le n masses (omega (arith, e .0, fit .head .few)) ∙ e .0 in
           ap (λ f. reconstructVerdict (reconstructCall f M (take n masses) scratch)) same-lists
           ∙ ap (λ k. reconstructVerdict (reconstructCall (fileLists file) k (take n masses) scratch)) (e .1 .1 .0)
           ∙ verdict-lengths (fileLists file) (fileTotal file) (take n masses) (listTo (fileCells file) (λ i. 0)) scratch (listTo (scratchPerNode * fileNodes file) (λ i. pos 0)) (l ∙ sym (length-listTo (fileCells file) (λ i. 0))) (omega arith) (omega (arith, length-nodes file, length-listTo (scratchPerNode * fileNodes file) (λ i. pos 0)))
-          ∙ sym (read-verdict (read-accepts file s .1 fit))
+
+      same-verdict : reconstructVerdict (frontCall n m M t masses scratch) ≡ fileVerdict file
+      same-verdict = front-verdict ∙ sym (read-verdict (read-accepts file s .1 fit))
 
       pub file-read : (r : FileRepaired) (masses′ : List ℕ) (scratch′ : List ℤ) → RepairsFronts n m M t masses scratch r masses′ scratch′ → RepairsFile file s masses scratch r t masses′ scratch′
       unfolding fileRepair fileMasses

@@ -5,6 +5,7 @@ use mathlib.Core.List.{List}
 use Prim.Native.Nat.{ℕ, _+_, _-_, _^_, _≤_, _<_, min}
 use native.Mathlib.Omega.{arith}
 use native.Mathlib.Nat.{lt-of-le-of-lt}
+use native.Mathlib.Decide.{decLt}
 use lib.IntN.{ℤ, pos, natAbs, _-ℤ_}
 use mir.Syntax.{w64}
 use mir.Val.{toZ, ofZ}
@@ -12,14 +13,23 @@ use Rattle.numbers.specs.Sums.{ℕ-adds}
 use Rattle.numbers.specs.Signed.{over}
 use Rattle.numbers.proofs.SignedLaws.{about, read-back}
 use Rattle.caas_spec.specs.Group.{Group, Each, sumIn}
-use Rattle.caas_spec.specs.Split.{clipped, deficit, surplus, room, capacity, portion, firstShare, remainder, left, secondShare, moved, shares, result}
+use Rattle.caas_spec.specs.Split.{clipped, deficit, surplus, room, capacity, portion, firstShare, remainder, left, secondShare, moved, shares, result, afterFirst}
 use Rattle.caas_spec.proofs.PortionLaws.{portion-most, first-is, second-is, firsts-most, remainder-is, lefts, remainder-room}
 use Rattle.caas_spec.proofs.SplitLaws.{enough, clipped-most, room-most, deficit-most}
 use Rattle.caas_spec.proofs.ExtLaws.{all-ext, portion-ext}
 use Rattle.scratch_spec.specs.Chain.{onChain}
-use Rattle.scratch_spec.specs.Columns.{MASS, LOW, HIGH, WEIGHT, FIRST, NEXT, num, OnlyColumn}
-use Rattle.scratch_spec.specs.Walks.{onChainOf, groupIn, Rising, Clipping, Clipped, roomIn, shareIn, movedIn, Sharing, Shared, Splitting, SplitDone}
+use Rattle.scratch_spec.specs.Columns.{MASS, LOW, HIGH, WEIGHT, FIRST, NEXT, num, OnlyColumn, Laid}
+use Rattle.scratch_spec.specs.Walks.{onChainOf, groupIn, Rising, Clipping, Clipped, roomIn, shareIn, movedIn, Sharing, Shared, Splitting, SplitDone, SplitWatched}
 use Rattle.scratch_spec.proofs.ColumnLaws.{kept-on}
+
+-- what stands where no member does is as it was
+untouched :
+    {k m : ℕ} {has : ℕ → Bool} {x : ℕ → ℤ} {s t : List ℤ} → Laid k m has x m s t → (u : ℕ) → (u < m → has u ≡ false) → num k t u ≡ num k s u
+untouched {k} {m} {s = s} {t} p u h = go (decLt u m)
+  where
+    go : Dec (u < m) → num k t u ≡ num k s u
+    go (yes l) = ap over (p .same u l (h l))
+    go (no l) = ap over (p .rest u (omega arith))
 
 -- ---- a walk leaves the chain and the bounds as they were
 
@@ -211,4 +221,23 @@ module _ {m v : ℕ} {s : List ℤ} (ok : Splitting m v s) where
               done = λ u l e. b .laid .done u l (has₂ u l ∙ e) ∙ value₃ u l (has₂ u l ∙ e);
               same = λ u l e. b .laid .same u l (has₂ u l ∙ e) ∙ a .laid .same u l (has₁ u l ∙ e) ∙ c .laid .same u l e;
               rest = λ u l. b .laid .rest u l ∙ a .laid .rest u l ∙ c .laid .rest u l;
+            }
+
+        -- and what stands in a node's place after each
+        pub split-watched :
+            {s₃ : List ℤ} {g r u x y z : ℕ} → Shared true down m v (size - given) s₂ s₃ g r → x ≡ num MASS s₁ u → y ≡ num MASS s₂ u → z ≡ num MASS s₃ u
+            → SplitWatched m v u s s₃ x y z
+        unfolding afterFirst
+        split-watched {s₃} {u = u} b ex ey ez =
+            record {
+              split = split-done b;
+              clips = λ l e. ex ∙ value₁ u l (has₁ u l ∙ e);
+              firsts = λ l e. ey ∙ value₂ u l (has₂ u l ∙ e) ∙ ap (λ t. moved t (clipped G u) (firstShare G cap D u)) ed;
+              gives = λ l e. ez ∙ ap over (split-done b .done u l e);
+              stays =
+                  λ h.
+                  let e₁ = untouched (c .laid) u h in
+                  let e₂ = untouched (a .laid) u (λ l. has₁ u l ∙ h l) ∙ e₁ in
+                  let e₃ = untouched (b .laid) u (λ l. has₂ u l ∙ h l) ∙ e₂ in
+                  (ex ∙ e₁, (ey ∙ e₂, ez ∙ e₃));
             }

@@ -8,7 +8,7 @@ use lib.ListN.{length}
 use Rattle.numbers.specs.Sums.{ℕ-adds}
 use Rattle.numbers.specs.Quota.{quota}
 use Rattle.caas_spec.specs.Group.{Group, Splits, sumBefore, sumIn}
-use Rattle.caas_spec.specs.Split.{clipped, room, moved, portion, result}
+use Rattle.caas_spec.specs.Split.{clipped, room, moved, portion, result, afterFirst}
 use Rattle.scratch_spec.specs.Chain.{cursor, onChain}
 use Rattle.scratch_spec.specs.Columns.{width, MASS, LOW, HIGH, WEIGHT, FIRST, NEXT, col, num, Laid}
 
@@ -100,3 +100,11 @@ pub record Splitting (m v : ℕ) (s : List ℤ) : Type 0 where
 
 abbrev pub SplitDone : (m v : ℕ) (s new : List ℤ) → Type 0
 SplitDone m v s new = Laid MASS m (onChainOf v s) (λ u. pos (result (groupIn m v s) (num MASS s v) u)) m s new
+
+-- the same, watched at one node: what a node of the chain has after clipping, after the first pass, and at the end; any other keeps what it had
+pub record SplitWatched (m v u : ℕ) (s new : List ℤ) (clip first both : ℕ) : Type 0 where
+  pub split : SplitDone m v s new
+  pub clips : u < m → onChainOf v s u ≡ true → clip ≡ clipped (groupIn m v s) u
+  pub firsts : u < m → onChainOf v s u ≡ true → first ≡ afterFirst (groupIn m v s) (num MASS s v) u
+  pub gives : u < m → onChainOf v s u ≡ true → both ≡ result (groupIn m v s) (num MASS s v) u
+  pub stays : (u < m → onChainOf v s u ≡ false) → (clip ≡ num MASS s u) × ((first ≡ num MASS s u) × (both ≡ num MASS s u))

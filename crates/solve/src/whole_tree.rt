@@ -1,8 +1,10 @@
 // The masses of a whole tree by the bounds in force: the columns from the lists, the splits from the root down, the masses out of their
-// column, and the scratch cleared. Relies on `load` and `descend`.
+// column, and the scratch cleared; or in their place what one node has after each step of its parent's split. Relies on `load` and `descend`.
 ghost use mathlib.Core.Path.{_≡_};
+ghost use Prim.Native.Nat.{_-_, _<_};
 ghost use lib.ListN.{length};
-ghost use Rattle.solve_spec.specs.Solve.{Solvable, Prepared, Solved};
+ghost use Rattle.solve_spec.specs.Solve.{Solvable, Prepared, Solved, NodeWatched};
+use crate::descend::child_stages;
 use crate::descend::descend;
 use crate::load::change;
 use crate::load::clear;
@@ -73,4 +75,35 @@ pub fn solve(
     clear(s, WIDTH * parents.len());
     let change = change(masses, targets);
     Moved { change, shared }
+}
+
+// What a node has after each step of a split: clipped, moved by its first share, and by both.
+pub struct Stages {
+    pub clip: u64,
+    pub first: u64,
+    pub both: u64,
+}
+
+// What one node below the root has after each step of the split of its parent's mass. The scratch's first rows are 0 afterwards.
+pub fn node_stages(
+    parents: &[u32],
+    targets: &[i32],
+    lows: &[u32],
+    highs: &[u32],
+    weights: &[u32],
+    mass: u64,
+    u: usize,
+    s: &mut [i64],
+) -> Stages
+    requires { ⌜ Solvable (now parents) (now targets) (now lows) (now highs) (now weights) mass (now s) ⌝ }
+    requires { ⌜ u < length (now parents) - 1 ⌝ }
+    ensures { λ r.
+        ⌜ NodeWatched (now (parents .entry)) (now (targets .entry)) (now (lows .entry)) (now (highs .entry)) (now (weights .entry)) mass u
+        (now (s .entry)) (now (s .exit)) (r .clip) (r .first) (r .both) ⌝ }
+{
+    let m = parents.len();
+    prepare(parents, targets, lows, highs, weights, mass, s);
+    let stages = child_stages(parents, m - 1, u, s);
+    clear(s, WIDTH * m);
+    stages
 }

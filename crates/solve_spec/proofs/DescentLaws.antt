@@ -10,11 +10,11 @@ use lib.IntN.{ℤ, pos, natAbs}
 use Rattle.numbers.specs.Sums.{ℕ-adds}
 use Rattle.numbers.specs.Signed.{over}
 use Rattle.caas_spec.specs.Group.{Each, sumIn}
-use Rattle.caas_spec.specs.Split.{deficit, result}
-use Rattle.caas_spec.proofs.ExtLaws.{all-ext, deficit-ext, result-ext, splits-ext}
+use Rattle.caas_spec.specs.Split.{clipped, deficit, result, afterFirst}
+use Rattle.caas_spec.proofs.ExtLaws.{all-ext, clipped-ext, deficit-ext, after-ext, result-ext, splits-ext}
 use Rattle.caas_spec.proofs.SplitLaws.{deficit-most}
 use Rattle.scratch_spec.specs.Columns.{MASS, LOW, HIGH, WEIGHT, col, num}
-use Rattle.scratch_spec.specs.Walks.{onChainOf, groupIn, Splitting, SplitDone}
+use Rattle.scratch_spec.specs.Walks.{onChainOf, groupIn, Splitting, SplitDone, SplitWatched}
 use Rattle.scratch_spec.proofs.ColumnLaws.{kept-start, kept-on}
 use Rattle.scratch_spec.proofs.NodeLaws.{num-kept}
 use Rattle.qlt_spec.specs.Tree.{childOf, massAt, Valid}
@@ -22,7 +22,7 @@ use Rattle.qlt_spec.proofs.TreeLaws.{child-yes, child-other, child-up, child-lo
 use Rattle.qlt_spec.specs.Masses.{sharedOf}
 use Rattle.qlt_spec.proofs.MassLaws.{mass-root, mass-up}
 use Rattle.qlt_spec.proofs.SharedLaws.{shared-first, shared-none, shared-most}
-use Rattle.solve_spec.specs.Descent.{Linked, SameData, groupBy, massIn, sharedIn, Planned, Descended, DescendState, DownTo}
+use Rattle.solve_spec.specs.Descent.{Linked, SameData, groupBy, massIn, sharedIn, Planned, Descended, DescendState, DownTo, ChildWatched}
 use Rattle.solve_spec.proofs.LinkLaws.{root-none, linked-has, linked-rising, linked-kept}
 
 -- a tree that breaks no rule for n cells breaks none for one cell; linking asks no more
@@ -180,17 +180,18 @@ module _ {up : ℕ → ℕ} {n m : ℕ} {s : List ℤ} (plan : Planned up n m s)
         let q : size ≡ natAbs (deficit (groupBy up m node s) (massIn up m s node)) = z ∙ ap natAbs deficit-is in
         omega (arith, f, g, q)
 
+    -- what a child gets is its mass
+    result-is : (u : ℕ) → u < m - 1 → up u ≡ node → onChainOf node new u ≡ true → result (groupIn m node new) (num MASS new node) u ≡ massIn up m s u
+    result-is u i e o =
+        result-ext (groupIn m node new) (groupBy up m node s) refl has-is target-is
+        (value-is LOW (omega arith) (omega arith)) (value-is HIGH (omega arith) (omega arith)) (value-is WEIGHT (omega arith) (omega arith))
+        (num MASS new node) u (omega arith) o
+        ∙ ap (λ M. result (groupBy up m node s) M u) mass-is
+        ∙ ap (λ w. result (groupBy up m w s) (massIn up m s w) u) (sym e)
+        ∙ sym (mass-step ok s u i)
+
     -- a turn
     module _ {t : List ℤ} {size : ℕ} (p : SplitDone m node new t) (ps : size ≡ natAbs (deficit (groupIn m node new) (num MASS new node))) where
-      result-is : (u : ℕ) → u < m - 1 → up u ≡ node → onChainOf node new u ≡ true → result (groupIn m node new) (num MASS new node) u ≡ massIn up m s u
-      result-is u i e o =
-          result-ext (groupIn m node new) (groupBy up m node s) refl has-is target-is
-          (value-is LOW (omega arith) (omega arith)) (value-is HIGH (omega arith) (omega arith)) (value-is WEIGHT (omega arith) (omega arith))
-          (num MASS new node) u (omega arith) o
-          ∙ ap (λ M. result (groupBy up m node s) M u) mass-is
-          ∙ ap (λ w. result (groupBy up m w s) (massIn up m s w) u) (sym e)
-          ∙ sym (mass-step ok s u i)
-
       done-at : (u : ℕ) → u < m - 1 → node ≤ up u → Dec (up u ≡ node) → col MASS t u ≡ pos (massIn up m s u)
       done-at u i j (yes e) =
           let o : onChainOf node new u ≡ true = has-is u (omega arith) ∙ child-yes up u node (omega (arith, ok .rises u i)) e in
@@ -207,6 +208,29 @@ module _ {up : ℕ → ℕ} {n m : ℕ} {s : List ℤ} (plan : Planned up n m s)
             todo = λ u i j. p .same u (omega arith) (has-is u (omega arith) ∙ child-other up u node (omega arith)) ∙ st .todo u i (omega arith);
             shares = shared-is ps;
           }
+
+    -- a child of the node, after each step
+    module _ {u x y z : ℕ} {t : List ℤ} (p : SplitWatched m node u new t x y z) (i : u < m - 1) (e : up u ≡ node) where
+      on-chain : onChainOf node new u ≡ true
+      on-chain = has-is u (omega arith) ∙ child-yes up u node (omega (arith, ok .rises u i)) e
+
+      pub watched-clip : x ≡ clipped (groupBy up m node s) u
+      watched-clip =
+          p .clips (omega arith) on-chain
+          ∙ clipped-ext (groupIn m node new) (groupBy up m node s) refl has-is target-is
+          (value-is LOW (omega arith) (omega arith)) (value-is HIGH (omega arith) (omega arith)) (value-is WEIGHT (omega arith) (omega arith))
+          u (omega arith) on-chain
+
+      pub watched-first : y ≡ afterFirst (groupBy up m node s) (massIn up m s node) u
+      watched-first =
+          p .firsts (omega arith) on-chain
+          ∙ after-ext (groupIn m node new) (groupBy up m node s) refl has-is target-is
+          (value-is LOW (omega arith) (omega arith)) (value-is HIGH (omega arith) (omega arith)) (value-is WEIGHT (omega arith) (omega arith))
+          (num MASS new node) u (omega arith) on-chain
+          ∙ ap (λ M. afterFirst (groupBy up m node s) M u) mass-is
+
+      pub watched-both : z ≡ massIn up m s u
+      watched-both = p .gives (omega arith) on-chain ∙ result-is u i e on-chain
 
   pub down-end : {v : ℕ} {new : List ℤ} {shared : ℕ} → DescendState up m s v new shared → v ≤ n → (u : ℕ) → u < m → col MASS new u ≡ pos (massIn up m s u)
   down-end {v} {new} st h u l = go (ℕ-discrete u (m - 1))
@@ -231,3 +255,45 @@ descended {n = n} plan d =
       masses = λ u l. down-end (planned-same plan (d .same)) (d .links) (d .state) (omega arith) u l ∙ ap pos (mass-same plan (d .same) u);
       shares = d .state .shares ∙ shared-same plan (d .same) n;
     }
+
+-- ---- one child: down to its parent, whose split is watched
+
+-- the parent of any node of a tree of more than one is an inner node
+pub up-inner : {up : ℕ → ℕ} {n m i x : ℕ} → Valid up n m → 1 < m → x ≡ up i → i < m → (n ≤ x) × (x < m)
+up-inner {up} {n} {m} {i} {x} ok h p l = go (ℕ-discrete i (m - 1))
+  where
+    go : Dec (i ≡ m - 1) → (n ≤ x) × (x < m)
+    go (yes e) = let q : up i ≡ m - 1 = ap up e ∙ ok .top in (omega (arith, p, q, ok .inner 0 (omega arith), ok .inside 0 (omega arith)), omega (arith, p, q))
+    go (no e) = (omega (arith, p, ok .inner i (omega arith)), omega (arith, p, ok .inside i (omega arith)))
+
+module _ {up : ℕ → ℕ} {n m v shared : ℕ} {s new : List ℤ} (plan : Planned up n m s) (d : DownTo up (v + 1) m s new shared) (l : n ≤ v) where
+  -- the next node in falling number
+  next : v + 1 - 1 ≡ v
+  next = omega arith
+
+  pub next-splitting : Splitting m v new
+  next-splitting = subst (λ w. Splitting m w new) next (down-splitting (planned-same plan (d .same)) (d .links) (d .state) (omega arith))
+
+  pub child-watched : {u x y z : ℕ} {end : List ℤ} → SplitWatched m v u new end x y z → u < m - 1 → up u ≡ v → ChildWatched up m u s end x y z
+  child-watched {u} {x} {y} {z} {end} p i e =
+      record {
+        long = p .split .kept .long ∙ d .state .kept .long ∙ d .same .long;
+        far = λ j h. p .split .kept .far j h ∙ d .state .kept .far j h ∙ d .same .far j h;
+        clips =
+            watched-clip q (d .links) (d .state) (omega arith) p′ i e′
+            ∙ ap (λ G. clipped G u) (group-same plan (d .same) (v + 1 - 1)) ∙ ap (λ w. clipped (groupBy up m w s) u) (sym e′);
+        firsts =
+            watched-first q (d .links) (d .state) (omega arith) p′ i e′
+            ∙ ap₂ (λ G M. afterFirst G M u) (group-same plan (d .same) (v + 1 - 1)) (mass-same plan (d .same) (v + 1 - 1))
+            ∙ ap (λ w. afterFirst (groupBy up m w s) (massIn up m s w) u) (sym e′);
+        gives = watched-both q (d .links) (d .state) (omega arith) p′ i e′ ∙ mass-same plan (d .same) u;
+      }
+    where
+      q : Planned up n m (d .linked)
+      q = planned-same plan (d .same)
+
+      p′ : SplitWatched m (v + 1 - 1) u new end x y z
+      p′ = subst (λ w. SplitWatched m w u new end x y z) (sym next) p
+
+      e′ : up u ≡ v + 1 - 1
+      e′ = e ∙ sym next

@@ -13,8 +13,9 @@ use Rattle.numbers.specs.Signed.{over}
 use Rattle.numbers.proofs.SumLaws.{sumTo-ext, sumTo-le}
 use Rattle.numbers.proofs.ListLaws.{length-listTo, getD-listTo, listTo-ext}
 use Rattle.caas_spec.specs.Group.{Group, Splits, sumIn}
-use Rattle.caas_spec.specs.Split.{deficit, result}
-use Rattle.caas_spec.proofs.ExtLaws.{all-ext, deficit-ext, result-ext, splits-ext}
+use Rattle.caas_spec.specs.Split.{clipped, deficit, result, afterFirst}
+use Rattle.caas_spec.proofs.SplitLaws.{clipped-within, after-within}
+use Rattle.caas_spec.proofs.ExtLaws.{all-ext, clipped-ext, deficit-ext, after-ext, result-ext, splits-ext}
 use Rattle.scratch_spec.specs.Columns.{width, MASS, LOW, HIGH, WEIGHT, FIRST, col, num, Stored, Laid}
 use Rattle.qlt_spec.specs.Tree.{childOf, massAt, Valid}
 use Rattle.qlt_spec.specs.Operation.{cleared}
@@ -24,8 +25,8 @@ use Rattle.qlt_spec.proofs.MassLaws.{InBounds, mass-root, mass-up}
 use Rattle.qlt_spec.proofs.SharedLaws.{shared-ext}
 use Rattle.qlt_spec.proofs.BetweenLaws.{between-in, between-can}
 use Rattle.solve_spec.specs.Gather.{Loaded}
-use Rattle.solve_spec.specs.Descent.{groupBy, massIn, sharedIn, Descending, Descended, DownTo}
-use Rattle.solve_spec.specs.Solve.{nodeOf, targetOf, nodeGroup, massOf, Solvable, Prepared, Solved}
+use Rattle.solve_spec.specs.Descent.{groupBy, massIn, sharedIn, Descending, Descended, DownTo, ChildWatched}
+use Rattle.solve_spec.specs.Solve.{nodeOf, targetOf, nodeGroup, massOf, Solvable, Prepared, Solved, NodeWatched}
 use Rattle.solve_spec.proofs.UpLaws.{node-pos, node-most}
 use Rattle.solve_spec.proofs.GatherLaws.{cleared-ext}
 use Rattle.solve_spec.proofs.DescentLaws.{descended}
@@ -85,7 +86,7 @@ module _ {parents : List ℕ} {targets : List ℤ} {lows highs weights : List �
   mass-in : (v : ℕ) → v < m → InBounds (at parents) n m (at lows) (at highs) v (mass v)
   mass-in = between-in (ok .valid) (atℤ targets) (at weights) (at lows) (at highs) (ok .order) M (ok .least) (ok .most)
 
-  mass-can : (v : ℕ) → n ≤ v → v < m → Splits (group v) (mass v)
+  pub mass-can : (v : ℕ) → n ≤ v → v < m → Splits (group v) (mass v)
   mass-can = between-can (ok .valid) (atℤ targets) (at weights) (at lows) (at highs) (ok .order) M (ok .least) (ok .most)
 
   mass-small : (v : ℕ) → v < m → mass v < 2 ^ 31
@@ -243,3 +244,44 @@ module _ {parents : List ℕ} {targets : List ℤ} {lows highs weights : List �
               shares = d .shares ∙ shared-is;
               leaves = f ∙ cleared-ext (width * m) new s long-end (λ i h. d .far i h ∙ p .far i h);
             }
+
+    -- ---- one node alone
+
+    pub node-watched :
+        {u x y z : ℕ} {new s′ : List ℤ} → ChildWatched (at parents) m u t new x y z → u < m - 1 → s′ ≡ cleared (width * m) new
+        → NodeWatched parents targets lows highs weights M u s s′ x y z
+    node-watched {u} {x} {y} {z} {new} {s′} d i f = record { clips = clips; firsts = firsts; gives = gives; small = small; leaves = leaves }
+      where
+        child : childOf (at parents) u (at parents u) ≡ true
+        child = child-parent (ok .valid) u i
+
+        clips : x ≡ clipped (group (at parents u)) u
+        clips =
+            d .clips
+            ∙ clipped-ext (held (at parents u)) (group (at parents u)) refl (λ j k. refl) (target-is (at parents u)) (λ j k e. p .low j k) (λ j k e. p .high j k) (λ j k e. p .weight j k) u
+            (omega arith) child
+
+        firsts : y ≡ afterFirst (group (at parents u)) (mass (at parents u)) u
+        firsts =
+            d .firsts
+            ∙ after-ext (held (at parents u)) (group (at parents u)) refl (λ j k. refl) (target-is (at parents u)) (λ j k e. p .low j k) (λ j k e. p .high j k) (λ j k e. p .weight j k)
+            (massIn (at parents) m t (at parents u)) u (omega arith) child
+            ∙ ap (λ x. afterFirst (group (at parents u)) x u) (mass-is (at parents u) (ok .valid .inside u i))
+
+        gives : z ≡ mass u
+        gives = d .gives ∙ mass-is u (omega arith)
+
+        -- none is above the node's high
+        small : (x < 2 ^ 31) × ((y < 2 ^ 31) × (z < 2 ^ 31))
+        small =
+            let can = mass-can (at parents u) (ok .valid .inner u i) (ok .valid .inside u i) in
+            let most = node-most (at parents) n m (at highs) u in (
+              omega (arith, ok .small, most, clips, clipped-within (group (at parents u)) (mass (at parents u)) can u (omega arith) child .1),
+              (
+                omega (arith, ok .small, most, firsts, after-within (group (at parents u)) (mass (at parents u)) can u (omega arith) child .1),
+                omega (arith, gives, mass-small u (omega arith)),
+              ),
+            )
+
+        leaves : s′ ≡ cleared (width * m) s
+        leaves = f ∙ cleared-ext (width * m) new s (d .long ∙ p .long) (λ j h. d .far j h ∙ p .far j h)

@@ -8,7 +8,7 @@ use lib.ListN.{length}
 use Rattle.numbers.specs.Sums.{ℕ-adds}
 use Rattle.numbers.specs.Lists.{atℤ}
 use Rattle.caas_spec.specs.Group.{Group, Splits, sumIn}
-use Rattle.caas_spec.specs.Split.{result}
+use Rattle.caas_spec.specs.Split.{clipped, result, afterFirst}
 use Rattle.scratch_spec.specs.Columns.{width, MASS, LOW, HIGH, WEIGHT, FIRST, NEXT, col, num, OnlyColumn}
 use Rattle.qlt_spec.specs.Tree.{childOf, massAt, Valid}
 use Rattle.qlt_spec.specs.Masses.{sharedOf}
@@ -92,3 +92,12 @@ pub record DownTo (up : ℕ → ℕ) (k m : ℕ) (old new : List ℤ) (shared : 
   pub links : Linked up m 0 linked
   pub same : SameData m old linked
   pub state : DescendState up m linked k new shared
+
+-- ---- one child alone: what it has after each step of the split of its parent's mass
+
+pub record ChildWatched (up : ℕ → ℕ) (m u : ℕ) (old new : List ℤ) (clip first both : ℕ) : Type 0 where
+  pub long : length new ≡ length old
+  pub far : (i : ℕ) → width * m ≤ i → atℤ new i ≡ atℤ old i
+  pub clips : clip ≡ clipped (groupBy up m (up u) old) u
+  pub firsts : first ≡ afterFirst (groupBy up m (up u) old) (massIn up m old (up u)) u
+  pub gives : both ≡ massIn up m old u

@@ -8,6 +8,7 @@ use lib.ListN.{length}
 use Rattle.numbers.specs.Sums.{ℕ-adds, ℤ-adds, sumTo}
 use Rattle.numbers.specs.Lists.{at, atℤ, listTo}
 use Rattle.caas_spec.specs.Group.{Group}
+use Rattle.caas_spec.specs.Split.{clipped, afterFirst}
 use Rattle.scratch_spec.specs.Columns.{width, MASS, LOW, HIGH, WEIGHT, FIRST, col, num}
 use Rattle.qlt_spec.specs.Tree.{nodeSum, Valid}
 use Rattle.qlt_spec.specs.Masses.{childrenBetween, massBetween, sharedOf}
@@ -62,4 +63,12 @@ module _ (parents : List ℕ) (targets : List ℤ) (lows highs weights : List �
     pub gives : masses ≡ listTo (length targets) (massOf M)
     pub moves : change ≡ sumTo ℕ-adds (length targets) (λ c. natAbs (pos (massOf M c) -ℤ atℤ targets c))
     pub shares : shared ≡ sharedOf (length targets) (length parents) nodeGroup (massOf M)
+    pub leaves : s ≡ cleared (width * length parents) old
+
+  -- of one node alone: what it has after each step of the split of its parent's mass; the scratch is cleared
+  pub record NodeWatched (M u : ℕ) (old s : List ℤ) (clip first both : ℕ) : Type 0 where
+    pub clips : clip ≡ clipped (nodeGroup (at parents u)) u
+    pub firsts : first ≡ afterFirst (nodeGroup (at parents u)) (massOf M (at parents u)) u
+    pub gives : both ≡ massOf M u
+    pub small : (clip < 2 ^ 31) × ((first < 2 ^ 31) × (both < 2 ^ 31))
     pub leaves : s ≡ cleared (width * length parents) old

@@ -94,7 +94,7 @@ signed-few k (negsuc n) after h l = omega (arith, number-few k (suc n) after h l
 
 -- ---- what they mean
 
-value-last : (ds : List ℕ) (x d : ℕ) → valueFrom x (ds ++ (d ∷ [])) ≡ 10 * valueFrom x ds + (d - 48)
+pub value-last : (ds : List ℕ) (x d : ℕ) → valueFrom x (ds ++ (d ∷ [])) ≡ 10 * valueFrom x ds + (d - 48)
 unfolding valueFrom
 value-last [] x d = refl
 value-last (e ∷ ds) x d = value-last ds (10 * x + (e - 48)) d

@@ -33,6 +33,10 @@ signedNumber (negsuc n) after = 45 ∷ number (suc n) after
 abbrev pub named : List ℕ → ℕ → ℕ → List ℕ
 named word n after = word ++ number n after
 
+-- and a signed one
+abbrev pub namedSigned : List ℕ → ℤ → ℕ → List ℕ
+namedSigned word z after = word ++ signedNumber z after
+
 -- ---- lines
 
 -- the byte between the pieces of a line, and the byte at its end

@@ -1,7 +1,7 @@
 // Pieces of text, each put at a place, with the place after it as the result; and a whole text at the front of a lent list.
 ghost use Prim.Native.Nat.{_+_, _≤_, _<_, _^_};
 ghost use lib.ListN.{length};
-ghost use Rattle.text.specs.Text.{Put, digitsOf, number, signedNumber, named, refusalText};
+ghost use Rattle.text.specs.Text.{Put, digitsOf, number, signedNumber, named, namedSigned, refusalText};
 ghost use Rattle.text.specs.Reports.{Reports};
 use crate::Reported;
 use numbers::Checked;
@@ -62,6 +62,16 @@ pub fn put_named(out: &mut [u8], at: usize, word: &[u8], x: u64, after: u8) -> u
 {
     let end = put_bytes(out, at, word);
     put_number(out, end, x, after)
+}
+
+// The same of a signed number.
+pub fn put_named_signed(out: &mut [u8], at: usize, word: &[u8], z: i64, after: u8) -> usize
+    requires { ⌜ at + length (now word) + 22 ≤ length (now out) ⌝ }
+    ensures { λ r.
+        ⌜ Put (now (out .entry)) (now (out .exit)) at r (namedSigned (now (word .entry)) z after) × (r ≤ at + length (now (word .entry)) + 22) ⌝ }
+{
+    let end = put_bytes(out, at, word);
+    put_signed(out, end, z, after)
 }
 
 // Puts a refusal at the start of a list, and the byte `after`.

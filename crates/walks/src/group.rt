@@ -3,7 +3,7 @@ ghost use mathlib.Core.Path.{_≡_};
 ghost use Prim.Native.Nat.{_<_, _^_};
 ghost use Rattle.caas_spec.specs.Split.{clip, deficit, room, moved};
 ghost use Rattle.scratch_spec.specs.Columns.{MASS, LOW, HIGH, col, num, InRow};
-ghost use Rattle.scratch_spec.specs.Walks.{groupIn, roomIn, either, Clipping, Clipped, Sharing, Shared, Splitting, SplitDone};
+ghost use Rattle.scratch_spec.specs.Walks.{groupIn, roomIn, either, Clipping, Clipped, Sharing, Shared, Splitting, SplitDone, SplitWatched};
 use crate::columns::get_above;
 use crate::columns::put;
 use scratch_spec::FIRST;
@@ -129,22 +129,49 @@ fn share_walk(
     }
 }
 
-// Splits v's mass, which stands in its own row, among the nodes on its chain: their masses take their targets' place. Gives 01's d.
-pub fn split_group(s: &mut [i64], m: usize, v: usize) -> i64
+// What one node has after each step of a split, clipped, moved by its first share, and by both; and 01's d.
+pub struct Watched {
+    pub clip: u64,
+    pub first: u64,
+    pub both: u64,
+    pub deficit: i64,
+}
+
+// Splits v's mass, which stands in its own row, among the nodes on its chain: their masses take their targets' place. Gives what u has in
+// its place after each step.
+pub fn split_watched(s: &mut [i64], m: usize, v: usize, u: usize) -> Watched
     requires { ⌜ Splitting m v (now s) ⌝ }
-    ensures { λ r. ⌜ SplitDone m v (now (s .entry)) (now (s .exit)) ⌝ }
-    ensures { λ r. ⌜ r ≡ deficit (groupIn m v (now (s .entry))) (num MASS (now (s .entry)) v) ⌝ }
+    requires { ⌜ InRow MASS (now s) u ⌝ }
+    ensures { λ r. ⌜ SplitWatched m v u (now (s .entry)) (now (s .exit)) (r .clip) (r .first) (r .both) ⌝ }
+    ensures { λ r. ⌜ r .deficit ≡ deficit (groupIn m v (now (s .entry))) (num MASS (now (s .entry)) v) ⌝ }
 {
     let mass = get_above(s, MASS, v);
     let clipped = clip_walk(s, m, v);
     let sum = clipped.main;
     let all = clipped.side;
+    let clip = get_above(s, MASS, u);
     let deficit = numbers::arith::difference(mass, sum);
     let down = numbers::arith::is_negative(deficit);
     let size = numbers::arith::magnitude(deficit);
-    let first = share_walk(s, m, v, false, down, size, all);
-    let given = first.main;
-    let left = first.side;
+    let shares = share_walk(s, m, v, false, down, size, all);
+    let given = shares.main;
+    let left = shares.side;
+    let first = get_above(s, MASS, u);
     share_walk(s, m, v, true, down, size - given, left);
-    deficit
+    let both = get_above(s, MASS, u);
+    Watched {
+        clip,
+        first,
+        both,
+        deficit,
+    }
+}
+
+// The split alone. Gives 01's d.
+pub fn split_group(s: &mut [i64], m: usize, v: usize) -> i64
+    requires { ⌜ Splitting m v (now s) ⌝ }
+    ensures { λ r. ⌜ SplitDone m v (now (s .entry)) (now (s .exit)) ⌝ }
+    ensures { λ r. ⌜ r ≡ deficit (groupIn m v (now (s .entry))) (num MASS (now (s .entry)) v) ⌝ }
+{
+    split_watched(s, m, v, v).deficit
 }

@@ -1,10 +1,10 @@
 //! The test program of Import and Export. A case starts with its kind: 1 is Import of a scale and the bit patterns of five doubles, 2 is
 //! Export of a mass and a scale, 3 is Export and then Import of what it gave, in every field at the same scale, 4 is Export in binary32.
 
-use crate::numbers::{each_case, Numbers};
 use crate::output;
-use crate::program::Program;
 use compare::doubles::{export, export_single, import};
+use compare::numbers::{each_case, Numbers};
+use compare::program::Program;
 
 /// A double's bit pattern; every NaN is the same.
 fn pattern(double: f64) -> String {
@@ -46,5 +46,5 @@ fn case(numbers: &mut Numbers) -> String {
 }
 
 pub fn expected(program: &Program) -> String {
-    each_case(&program.input(), case)
+    each_case(&program.input(), case).concat()
 }

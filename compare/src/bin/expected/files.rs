@@ -4,11 +4,11 @@
 //! field file of a number; 4 is writing the field of cells, nodes and total, with lists of seven lengths by a rule, into a buffer whose bytes
 //! are 9 before; 5 is reading the answer file of a number into a list, whose entries are 7 before.
 
-use crate::numbers::{each_case, Numbers};
 use crate::output;
-use crate::program::Program;
 use compare::files::{payload, read_answer, read_field, write_answer, write_field};
+use compare::numbers::{each_case, Numbers};
 use compare::operations::Refusal;
+use compare::program::Program;
 use compare::tree::{Field, Repair};
 
 /// Of a file so many bytes are read at most.
@@ -17,14 +17,6 @@ const MAX_FILE: usize = 20000;
 /// A check number of a list: for each entry, 31 times what it was, and the entry, modulo 4294967291.
 fn check_number(list: impl IntoIterator<Item = u32>) -> u64 {
     list.into_iter().fold(0, |check, entry| (check * 31 + u64::from(entry)) % 4_294_967_291)
-}
-
-/// The file of a number and a kind. One that is missing is told in a line, and taken as empty.
-fn load(program: &Program, number: u64, kind: &str) -> (String, Vec<u8>) {
-    match program.data_file(number, kind, MAX_FILE) {
-        Some(file) => (String::new(), file),
-        None => ("no such file\n".to_string(), Vec::new()),
-    }
 }
 
 /// A length, taken as `most` if it is more.
@@ -53,7 +45,7 @@ fn field_of(lengths: [usize; 7], list: impl Fn(u64, usize) -> Vec<u32>) -> Field
 }
 
 fn read(program: &Program, numbers: &mut Numbers) -> String {
-    let (told, file) = load(program, numbers.unsigned(), "field");
+    let (told, file) = program.told_file(numbers.unsigned(), "field", MAX_FILE);
     let mut field = field_of(lengths(numbers), |_, length| vec![7; length]);
     let answer = match read_field(&file, &mut field) {
         Ok(header) => format!("read {} {} {}", header.cells, header.nodes, header.total),
@@ -115,7 +107,7 @@ fn write_lists(numbers: &mut Numbers) -> String {
 }
 
 fn read_masses(program: &Program, numbers: &mut Numbers) -> String {
-    let (told, file) = load(program, numbers.unsigned(), "answer");
+    let (told, file) = program.told_file(numbers.unsigned(), "answer", MAX_FILE);
     let mut masses = vec![7; length(numbers, 600)];
     let answer = match read_answer(&file, &mut masses) {
         Ok(header) => {
@@ -128,7 +120,7 @@ fn read_masses(program: &Program, numbers: &mut Numbers) -> String {
 }
 
 fn part(program: &Program, numbers: &mut Numbers) -> String {
-    let (told, file) = load(program, numbers.unsigned(), "field");
+    let (told, file) = program.told_file(numbers.unsigned(), "field", MAX_FILE);
     let part = payload(&file, numbers.unsigned() as usize);
     format!("{told}payload {} {}", part.len(), check_number(part.iter().map(|&byte| u32::from(byte))))
 }
@@ -146,5 +138,5 @@ fn case(program: &Program, numbers: &mut Numbers) -> String {
 }
 
 pub fn expected(program: &Program) -> String {
-    each_case(&program.input(), |numbers| case(program, numbers))
+    each_case(&program.input(), |numbers| case(program, numbers)).concat()
 }

@@ -2,8 +2,8 @@
 //! after every 500.
 
 use crate::output;
-use crate::program::Program;
 use compare::operations::{open, step};
+use compare::program::Program;
 use compare::random::{binary, chain, flat};
 use compare::tree::{sum, Field, Workspace};
 

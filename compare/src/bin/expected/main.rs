@@ -5,21 +5,20 @@
 mod doubles;
 mod files;
 mod kept;
-mod numbers;
 mod output;
-mod program;
+mod query;
 mod reconstruct;
 mod report;
 mod split;
 
-use program::Program;
+use compare::program::{self, Program};
 use std::path::{Path, PathBuf};
 
 /// Makes the output of a test program.
 type Expected = fn(&Program) -> String;
 
 /// The test programs by their crates: the one place where these are named.
-const PROGRAMS: [(&str, Expected); 7] = [
+const PROGRAMS: [(&str, Expected); 9] = [
     ("split_test", split::expected),
     ("reconstruct_test", reconstruct::expected),
     ("kept_test", kept::expected),
@@ -27,6 +26,8 @@ const PROGRAMS: [(&str, Expected); 7] = [
     ("files_test", files::expected),
     ("report_test", report::expected),
     ("legzhuro", report::expected_listing),
+    ("query_test", query::expected),
+    ("legzhuro_query", query::expected_line),
 ];
 
 /// Compares an output with the one stored: the number of lines, or the first line that differs.

@@ -1,5 +1,6 @@
 //! Parts of lines that several test programs print.
 
+pub use compare::listing::refused;
 use compare::operations::Refusal;
 
 /// More masses than these are printed as a sum and a check number.
@@ -8,8 +9,13 @@ const MOST_PRINTED: usize = 16;
 /// The line of a case of no known kind.
 pub const NO_KIND: &str = "no such kind";
 
-pub fn refused(refusal: Refusal) -> String {
-    format!("refused {} {}", refusal.number, refusal.place)
+/// The text that an operation writes to a buffer of so many bytes, or the line of its refusal.
+pub fn text(room: usize, operation: impl FnOnce(&mut [u8]) -> Result<usize, Refusal>) -> String {
+    let mut buffer = vec![0; room];
+    match operation(&mut buffer) {
+        Ok(length) => String::from_utf8_lossy(&buffer[..length]).into_owned(),
+        Err(refusal) => refused(refusal) + "\n",
+    }
 }
 
 /// Numbers, a space before each.

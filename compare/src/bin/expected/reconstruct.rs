@@ -2,10 +2,10 @@
 //! scratch, and the total; then the seven lists, in runs of a count and a number that stands that many times. Before the call each mass
 //! is 7 and each number of the scratch 5.
 
-use crate::numbers::{each_case, Numbers};
 use crate::output;
-use crate::program::Program;
+use compare::numbers::{each_case, Numbers};
 use compare::operations::reconstruct;
+use compare::program::Program;
 use compare::tree::{sum, Field, Workspace};
 
 /// A list of so many numbers, clamped into a range. A count below 1 is taken as 1; the last run may have more than the list takes.
@@ -58,5 +58,5 @@ fn case(workspace: &mut Workspace, numbers: &mut Numbers) -> String {
 
 pub fn expected(program: &Program) -> String {
     let mut workspace = Workspace::default();
-    each_case(&program.input(), |numbers| case(&mut workspace, numbers))
+    each_case(&program.input(), |numbers| case(&mut workspace, numbers)).concat()
 }

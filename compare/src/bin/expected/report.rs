@@ -2,19 +2,12 @@
 //! short; and the program, which prints the listing of its standard input.
 
 use crate::output;
-use crate::program::Program;
-use compare::files::{FileWorkspace, MAX_FIELD_FILE};
+use compare::files::FileWorkspace;
 use compare::listing::{listing, report, MAX_TEXT};
-
-/// Of a file so many bytes are read at most: one more than the largest has.
-const MAX_FILE: usize = MAX_FIELD_FILE + 1;
+use compare::program::{Program, MAX_FILE};
 
 fn text(workspace: &mut FileWorkspace, file: &[u8], room: usize) -> String {
-    let mut buffer = vec![0; room];
-    match report(workspace, file, &mut buffer) {
-        Ok(length) => String::from_utf8_lossy(&buffer[..length]).into_owned(),
-        Err(refusal) => output::refused(refusal) + "\n",
-    }
+    output::text(room, |buffer| report(workspace, file, buffer))
 }
 
 pub fn expected(program: &Program) -> String {

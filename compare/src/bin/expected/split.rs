@@ -1,10 +1,10 @@
 //! The test program of Split. A case is the lengths of targets, lows, highs, weights and masses, at most 600 each, and the total; then the
 //! four lists. Before the call each mass is 7. An accepted call tells d.
 
-use crate::numbers::{each_case, Numbers};
 use crate::output;
-use crate::program::Program;
+use compare::numbers::{each_case, Numbers};
 use compare::operations::split;
+use compare::program::Program;
 
 const MOST: usize = 600;
 /// The sum printed stops here.
@@ -30,5 +30,5 @@ fn case(numbers: &mut Numbers) -> String {
 }
 
 pub fn expected(program: &Program) -> String {
-    each_case(&program.input(), case)
+    each_case(&program.input(), case).concat()
 }

@@ -1,0 +1,3 @@
+-- The laws of the query's code; they stand over the definitions of specs/ alone.
+pub mod CellLaws
+pub mod LineLaws
