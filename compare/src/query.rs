@@ -6,7 +6,7 @@ use crate::listing::{refused, write_text};
 use crate::operations::{refuse, Refusal};
 use crate::tree::{masses_by_step, sum};
 
-/// A buffer for the line has at least so many bytes.
+/// A buffer for the line has at least so many bytes. No paper has this number; it is the library's.
 pub const MAX_LINE: usize = 128;
 
 /// The parts of a cell's correction, its mass minus its target, by 01's steps at its parent.
@@ -101,7 +101,7 @@ pub fn query(workspace: &mut FileWorkspace, file: &[u8], cell: usize, buffer: &m
 }
 
 /// The number of an argument in decimal digits. One that is empty, otherwise written or beyond 32 bits is 4294967295, too large for every
-/// tool; one that is missing is taken as empty.
+/// tool (the papers say too large, the number is the library's); one that is missing is taken as empty.
 pub fn argument_number(argument: &[u8]) -> u32 {
     if argument.is_empty() || !argument.iter().all(u8::is_ascii_digit) {
         return u32::MAX;

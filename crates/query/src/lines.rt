@@ -37,7 +37,7 @@ fn gap_of(a: u64, b: u64) -> u64
 
 fn side_of(safe_lows: &[u32], safe_highs: &[u32], total: u32) -> Side
     requires { ⌜ (length (now «safe_lows») ≤ 1024) × (length (now «safe_highs») ≤ 1024) ⌝ }
-    ensures { λ r. ⌜ r .below ≡ isBelow (now («safe_lows» .entry)) (now («safe_highs» .entry)) total ⌝ }
+    ensures { λ r. ⌜ r .below ≡ isBelow (now («safe_lows» .entry)) total ⌝ }
     ensures { λ r. ⌜ r .distance ≡ distance (now («safe_lows» .entry)) (now («safe_highs» .entry)) total ⌝ }
 {
     let m = total as u64;

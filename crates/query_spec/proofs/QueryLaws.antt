@@ -184,8 +184,8 @@ module _ (file : List ℕ) (cell : ℕ) where
   unfolding queryText refusedLine
   text-eight place e = go (query-eight place e .1)
     where
-      line : queryText file cell ≡ beyondLine 8 0 (isBelow (f .safeLows) (f .safeHighs) M) (distance (f .safeLows) (f .safeHighs) M)
-      line = ap (λ v. lineBy v f M cell) e ∙ ap (λ p. beyondLine 8 p (isBelow (f .safeLows) (f .safeHighs) M) (distance (f .safeLows) (f .safeHighs) M)) (query-eight place e .0)
+      line : queryText file cell ≡ beyondLine 8 0 (isBelow (f .safeLows) M) (distance (f .safeLows) (f .safeHighs) M)
+      line = ap (λ v. lineBy v f M cell) e ∙ ap (λ p. beyondLine 8 p (isBelow (f .safeLows) M) (distance (f .safeLows) (f .safeHighs) M)) (query-eight place e .0)
 
       go : Beyond (f .safeLows) (f .safeHighs) M → EightText
       go (less l m b d) = text-below l m (line ∙ ap₂ (beyondLine 8 0) b d)

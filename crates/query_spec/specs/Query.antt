@@ -44,17 +44,17 @@ pub record QueryFits (file : List ℕ) (cell : ℕ) : Type 0 where
 
 -- ---- refusal 8: on which side M lies, and the distance between M and the nearest sum
 
-module _ (safeLows safeHighs : List ℕ) (M : ℕ) where
-  unfoldable pub isBelow : Bool
-  isBelow = ltb M (sum safeLows)
+unfoldable pub isBelow : (safeLows : List ℕ) → ℕ → Bool
+isBelow safeLows M = ltb M (sum safeLows)
 
+module _ (safeLows safeHighs : List ℕ) (M : ℕ) where
   unfoldable pub distance : ℕ
   distance = min (gap M (sum safeLows)) (gap M (sum safeHighs))
 
   -- the same in plain facts: M lies on one side of both sums, and so far from the nearer one
   pub data Beyond : Type 0 where
-    less : M < sum safeLows → M < sum safeHighs → isBelow ≡ true → distance ≡ sum safeLows - M → Beyond
-    more : sum safeHighs < M → sum safeLows < M → isBelow ≡ false → distance ≡ M - sum safeHighs → Beyond
+    less : M < sum safeLows → M < sum safeHighs → isBelow safeLows M ≡ true → distance ≡ sum safeLows - M → Beyond
+    more : sum safeHighs < M → sum safeLows < M → isBelow safeLows M ≡ false → distance ≡ M - sum safeHighs → Beyond
 
 -- ---- the line
 
@@ -75,7 +75,7 @@ beyondLine refusal place side far = refusalText refusal place space ++ named (si
 -- of a refusal: 8 has the side and the distance after it
 unfoldable pub refusedLine : (refusal place : ℕ) (safeLows safeHighs : List ℕ) → ℕ → List ℕ
 refusedLine refusal place safeLows safeHighs M =
-    cond (eqb refusal 8) (beyondLine refusal place (isBelow safeLows safeHighs M) (distance safeLows safeHighs M)) (refusalLine refusal place)
+    cond (eqb refusal 8) (beyondLine refusal place (isBelow safeLows M) (distance safeLows safeHighs M)) (refusalLine refusal place)
 
 -- of a field and its total, by the verdict
 abbrev pub lineBy : Checked → Lists → ℕ → ℕ → List ℕ
