@@ -9,11 +9,13 @@ use mir.Syntax.{w32, w64}
 use mir.Val.{SFits, toZ, ofZ}
 use mir.ValLaws.{toZ-ofZ}
 use Rattle.numbers.specs.declared.Checked.the-variants.{Pass}
-use Rattle.numbers.specs.Checks.{Answered, maxTotal}
+use Rattle.numbers.specs.Checks.{Answered, accepted, maxTotal}
 use Rattle.numbers.proofs.SignedLaws.{signed, about, add-parts, parts-le}
 use Rattle.qlt_spec.specs.declared.Repair.{Repair}
-use Rattle.qlt_spec.specs.Operation.{reconstructCall, ReconstructFits, RepairContract}
-use Rattle.kept_spec.specs.Step.{StepCall, next, newTotal, repairCall, StepFits}
+use Rattle.qlt_spec.specs.Operation.{reconstructCall, ReconstructFits, repair, RepairContract}
+use Rattle.qlt_spec.proofs.OperationLaws.{told-result, contract-done}
+use Rattle.kept_spec.specs.declared.Stepped.the-variants.{Accepted}
+use Rattle.kept_spec.specs.Step.{StepCall, next, newTotal, repairCall, stepVerdict, StepFits, stepResult, stepTells, StepContract}
 use Rattle.kept_spec.proofs.StepLaws.{fits-repair}
 
 pub next-fits : (t : ℕ) (z : ℤ) → t < 2 ^ 32 → SFits w32 z → SFits w64 (pos t +ℤ z)
@@ -38,3 +40,12 @@ pub repaired-step :
     (c : StepCall) (M : ℕ) → M ≡ newTotal c → {told : Answered Repair} {kept : List ℕ} {scratch : List ℤ}
     → RepairContract Pass (reconstructCall (c .lists) M (c .kept) (c .scratch)) told kept scratch → RepairContract Pass (repairCall c) told kept scratch
 repaired-step c M e {told} {kept} {scratch} p = subst (λ x. RepairContract Pass (reconstructCall (c .lists) x (c .kept) (c .scratch)) told kept scratch) e p
+
+-- and its answer is the repair with the balance of that total
+pub step-done :
+    (c : StepCall) {r : Repair} {kept : List ℕ} {scratch : List ℤ} → stepVerdict c ≡ Pass → RepairContract Pass (repairCall c) (accepted r) kept scratch
+    → StepContract c (Accepted r (record { total = r .total })) kept scratch
+unfolding stepTells repair
+step-done c e p =
+    contract-done (repairCall c) (stepResult c) e
+    (record { answers = ap (λ q. accepted (record { repair = q; balance = record { total = q .total } })) (told-result p); leaves = p .leaves })

@@ -6,12 +6,13 @@ ghost use Rattle.qlt_spec.specs.Operation.{RepairContract};
 ghost use Rattle.kept_spec.specs.Step.{stepCall, repairCall, StepFits};
 use crate::totals::add_source;
 use crate::totals::whole;
+use kept_spec::Balance;
 use qlt_spec::Repair;
 use reconstruct::repair::repaired;
 
 // An accepted step: the masses of its field for the new total replace the kept ones.
 pub fn step_on(
-    total: u32,
+    balance: Balance,
     kept: &mut [u32],
     source: i32,
     targets: &[i32],
@@ -24,18 +25,18 @@ pub fn step_on(
     scratch: &mut [i64],
 ) -> Repair
     requires { ⌜ StepFits
-        (stepCall total (now kept) source
+        (stepCall balance (now kept) source
         (lists (now targets) (now lows) (now highs) (now «safe_lows») (now «safe_highs») (now weights) (now parents)) (now scratch)) ⌝ }
     ensures { λ r.
         ⌜ RepairContract Pass
         (repairCall
-        (stepCall total (now (kept .entry)) source
+        (stepCall balance (now (kept .entry)) source
         (lists (now (targets .entry)) (now (lows .entry)) (now (highs .entry)) (now («safe_lows» .entry)) (now («safe_highs» .entry))
         (now (weights .entry)) (now (parents .entry)))
         (now (scratch .entry))))
         (accepted r) (now (kept .exit)) (now (scratch .exit)) ⌝ }
 {
-    let next = add_source(total, source);
+    let next = add_source(balance.total, source);
     repaired(
         targets,
         lows,

@@ -4,6 +4,7 @@
 ghost use Rattle.kept_spec.specs.Open.{OpenContract};
 ghost use Rattle.kept_spec.specs.Step.{stepCall, StepContract};
 ghost use Rattle.qlt_spec.specs.Field.{lists};
+use kept_spec::Balance;
 use kept_spec::Opened;
 use kept_spec::Stepped;
 
@@ -12,7 +13,7 @@ pub mod totals;
 mod verdict;
 mod work;
 
-// Adds up n kept masses and returns the total.
+// Adds up n kept masses and returns their balance.
 pub fn open(kept: &[u32]) -> Opened
     ensures { λ r. ⌜ OpenContract (now (kept .entry)) r ⌝ }
 {
@@ -20,9 +21,10 @@ pub fn open(kept: &[u32]) -> Opened
     work::open_by(verdict, kept)
 }
 
-// Steps a kept field: M is the total plus the source; the masses of the new field for M replace the kept ones. A refused call writes nothing.
+// Steps a kept field: M is the balance's total plus the source; the masses of the new field for M replace the kept ones. A refused call
+// writes nothing.
 pub fn step(
-    total: u32,
+    balance: Balance,
     kept: &mut [u32],
     source: i32,
     targets: &[i32],
@@ -36,14 +38,14 @@ pub fn step(
 ) -> Stepped
     ensures { λ r.
         ⌜ StepContract
-        (stepCall total (now (kept .entry)) source
+        (stepCall balance (now (kept .entry)) source
         (lists (now (targets .entry)) (now (lows .entry)) (now (highs .entry)) (now («safe_lows» .entry)) (now («safe_highs» .entry))
         (now (weights .entry)) (now (parents .entry)))
         (now (scratch .entry)))
         r (now (kept .exit)) (now (scratch .exit)) ⌝ }
 {
     let verdict = verdict::step_verdict(
-        total,
+        balance,
         kept,
         source,
         targets,
@@ -57,7 +59,7 @@ pub fn step(
     );
     work::step_by(
         verdict,
-        total,
+        balance,
         kept,
         source,
         targets,

@@ -10,6 +10,7 @@ use crate::totals::whole;
 use field_checks::shape::check_shape;
 use field_checks::total::check_reach;
 use field_checks::values::check_values;
+use kept_spec::Balance;
 use numbers::Checked;
 use numbers::arith::signed;
 use numbers::checks::check_count;
@@ -28,7 +29,7 @@ pub fn open_verdict(kept: &[u32]) -> Checked
 
 // Step's checks: 1 to 3, the kept list counted under 3; 4 to 7; 12; 13; 8.
 pub fn step_verdict(
-    total: u32,
+    balance: Balance,
     kept: &[u32],
     source: i32,
     targets: &[i32],
@@ -42,7 +43,7 @@ pub fn step_verdict(
 ) -> Checked
     ensures { λ r.
         ⌜ r ≡ stepVerdict
-        (stepCall total (now (kept .entry)) source
+        (stepCall balance (now (kept .entry)) source
         (lists (now (targets .entry)) (now (lows .entry)) (now (highs .entry)) (now («safe_lows» .entry)) (now («safe_highs» .entry))
         (now (weights .entry)) (now (parents .entry)))
         (now (scratch .entry))) ⌝ }
@@ -73,11 +74,11 @@ pub fn step_verdict(
     if let Checked::Fail { number, place } = values {
         return Checked::Fail { number, place };
     }
-    let adds_up = check_kept(kept, total);
+    let adds_up = check_kept(kept, balance.total);
     if let Checked::Fail { number, place } = adds_up {
         return Checked::Fail { number, place };
     }
-    let next = add_source(total, source);
+    let next = add_source(balance.total, source);
     let small = check_total(next);
     if let Checked::Fail { number, place } = small {
         return Checked::Fail { number, place };

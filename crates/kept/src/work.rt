@@ -4,6 +4,7 @@ ghost use Rattle.qlt_spec.specs.Field.{lists};
 ghost use Rattle.kept_spec.specs.Open.{openVerdict, OpenContract};
 ghost use Rattle.kept_spec.specs.Step.{stepCall, stepVerdict, StepContract};
 use crate::accepted::step_on;
+use kept_spec::Balance;
 use kept_spec::Opened;
 use kept_spec::Stepped;
 use numbers::Checked;
@@ -18,13 +19,15 @@ pub fn open_by(verdict: Checked, kept: &[u32]) -> Opened
     if let Checked::Fail { number, place } = verdict {
         return Opened::Refused { number, place };
     }
-    Opened::Total(narrow(sum_of(kept)))
+    Opened::Accepted(Balance {
+        total: narrow(sum_of(kept)),
+    })
 }
 
 // What a step leaves and answers, by its verdict: a refused one leaves the lists as they were.
 pub fn step_by(
     verdict: Checked,
-    total: u32,
+    balance: Balance,
     kept: &mut [u32],
     source: i32,
     targets: &[i32],
@@ -37,11 +40,11 @@ pub fn step_by(
     scratch: &mut [i64],
 ) -> Stepped
     requires { ⌜ verdict ≡ stepVerdict
-        (stepCall total (now kept) source
+        (stepCall balance (now kept) source
         (lists (now targets) (now lows) (now highs) (now «safe_lows») (now «safe_highs») (now weights) (now parents)) (now scratch)) ⌝ }
     ensures { λ r.
         ⌜ StepContract
-        (stepCall total (now (kept .entry)) source
+        (stepCall balance (now (kept .entry)) source
         (lists (now (targets .entry)) (now (lows .entry)) (now (highs .entry)) (now («safe_lows» .entry)) (now («safe_highs» .entry))
         (now (weights .entry)) (now (parents .entry)))
         (now (scratch .entry)))
@@ -51,7 +54,7 @@ pub fn step_by(
         return Stepped::Refused { number, place };
     }
     let repair = step_on(
-        total,
+        balance,
         kept,
         source,
         targets,
@@ -63,5 +66,10 @@ pub fn step_by(
         parents,
         scratch,
     );
-    Stepped::Accepted(repair)
+    Stepped::Accepted {
+        repair,
+        balance: Balance {
+            total: repair.total,
+        },
+    }
 }

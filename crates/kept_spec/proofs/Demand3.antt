@@ -14,19 +14,19 @@ use Rattle.numbers.specs.Signed.{over}
 use Rattle.numbers.specs.Checks.{Answered, accepted, refused, answered, after, Broken}
 use Rattle.numbers.proofs.PartLaws.{part-whole}
 use Rattle.numbers.proofs.CheckLaws.{answered-accepted, answered-refused, no-pass}
-use Rattle.qlt_spec.specs.declared.Repair.{Repair}
 use Rattle.qlt_spec.specs.Field.{Field, nodes, scratchPerNode, field, Meets}
 use Rattle.qlt_spec.specs.Masses.{treeMasses}
 use Rattle.numbers.specs.Lists.{sum}
-use Rattle.qlt_spec.specs.Operation.{repair, cleared}
+use Rattle.qlt_spec.specs.Operation.{cleared}
 use Rattle.qlt_spec.proofs.MissLaws.{meets-room, meets-neg}
 use Rattle.qlt_spec.proofs.FactLaws.{reachable-sums}
 use Rattle.qlt_spec.proofs.OperationLaws.{fits-valid}
+use Rattle.kept_spec.specs.declared.Balance.{Balance}
 use Rattle.kept_spec.specs.declared.Opened.{Opened}
-use Rattle.kept_spec.specs.Open.{openVerdict, openTells, OpenContract}
-use Rattle.kept_spec.specs.Step.{StepCall, next, newTotal, stepVerdict, stepRules, StepFits, stepAnswer}
+use Rattle.kept_spec.specs.Open.{openVerdict, openBalance, openTells, OpenContract}
+use Rattle.kept_spec.specs.Step.{StepCall, next, newTotal, stepVerdict, stepRules, StepFits, StepResult, stepResult, stepAnswer}
 use Rattle.kept_spec.specs.Run.{Run, sumOf, Sound}
-use Rattle.kept_spec.specs.Account.{Event, Standing, balanceOf, told, Accepts, ForTotal, balanceAfter, gainBy, gain, Promised, Moves, Reachable, StepFacts, Account}
+use Rattle.kept_spec.specs.Account.{Event, Standing, told, Accepts, ForTotal, balanceAfter, gainBy, gain, Promised, Moves, Reachable, StepFacts, Account}
 use Rattle.kept_spec.proofs.RunLaws.{run-keeps, run-gains, run-facts}
 use Rattle.kept_spec.proofs.StepLaws.{step-accepts, step-refuses, Past, refused-for-total, answer-tells, least-cells, most-cells, accepted-sum, accepted-facts, refused-keeps, step-account}
 
@@ -67,21 +67,21 @@ module _ (c : StepCall) where
       }
 
   -- accepted exactly if it fits, refused with a number at a place exactly if that rule is broken there after those before it
-  accepts-means : (x : Repair) (v : Checked) → stepVerdict c ≡ v → Accepts (answered v x) ↔ StepFits c
+  accepts-means : (x : StepResult) (v : Checked) → stepVerdict c ≡ v → Accepts (answered v x) ↔ StepFits c
   accepts-means x Pass e = (λ a. step-accepts c .0 e, λ f. tt)
   accepts-means x (Fail number place) e = (λ a. absurd a, λ f. no-pass (step-accepts c .1 f) e)
 
-  refuses-means : (x : Repair) (v : Checked) → stepVerdict c ≡ v → (number place : ℕ) → (answered v x ≡ refused number place) ↔ Broken (stepRules c) number place
+  refuses-means : (x : StepResult) (v : Checked) → stepVerdict c ≡ v → (number place : ℕ) → (answered v x ≡ refused number place) ↔ Broken (stepRules c) number place
   refuses-means x v e number place = (
     λ t. step-refuses c number place .0 (e ∙ answered-refused v x number place (sym t)),
     λ b. ap (λ w. answered w x) (sym e ∙ step-refuses c number place .1 b),
   )
 
   -- accepted, or refused with 13 or 8: accepted exactly if it can be reached
-  abbrev Decided : Answered Repair → Type 0
+  abbrev Decided : Answered StepResult → Type 0
   Decided a = Accepts a ⊎ ForTotal a → Accepts a ↔ Reachable c
 
-  decided : (x : Repair) (v : Checked) → stepVerdict c ≡ v → Decided (answered v x)
+  decided : (x : StepResult) (v : Checked) → stepVerdict c ≡ v → Decided (answered v x)
   decided x Pass e o = (λ a. fits-reachable (step-accepts c .0 e), λ t. tt)
   decided x (Fail number place) e o = (λ a. absurd a, λ t. no-pass (step-accepts c .1 (reachable-fits past t)) e)
     where
@@ -93,7 +93,7 @@ module _ (c : StepCall) where
 -- what Step's contract promises of an event has the facts of a step
 pub step-facts : (e : Event) → Promised e → StepFacts e
 step-facts e p =
-    let x = repair (e .call .lists) (newTotal (e .call)) in
+    let x = stepResult (e .call) in
     record {
       accepts = subst⁻¹ (λ a. Accepts a ↔ StepFits (e .call)) (p .answers) (accepts-means (e .call) x (stepVerdict (e .call)) refl);
       refuses =
@@ -125,16 +125,16 @@ Balanced s = sum (s .kept) ≡ s .balance .total
 abbrev pub worth : Standing → ℤ
 worth s = pos (sum (s .kept))
 
-no-gain : (a : Answered Repair) (z : ℤ) → (Accepts a → ⊥) → gainBy a z ≡ pos 0
+no-gain : (a : Answered StepResult) (z : ℤ) → (Accepts a → ⊥) → gainBy a z ≡ pos 0
 no-gain (accepted r) z h = absurd (h tt)
 no-gain (refused number place) z h = refl
 
-module _ (s : Standing) (e : Event) (before rest : List ℕ) (p : Promised e) (part : s .kept ≡ before ++ (e .call .kept ++ rest)) (whole : Accepts (told e) → (e .call .kept ≡ s .kept) × (balanceOf (e .call) ≡ s .balance)) where
+module _ (s : Standing) (e : Event) (before rest : List ℕ) (p : Promised e) (part : s .kept ≡ before ++ (e .call .kept ++ rest)) (whole : Accepts (told e) → (e .call .kept ≡ s .kept) × (e .call .balance ≡ s .balance)) where
   lent-keeps : Balanced s → sum (before ++ (e .kept ++ rest)) ≡ balanceAfter (told e) (s .balance) .total
   lent-keeps b = by-told (told e) refl whole
     where
       by-told :
-          (a : Answered Repair) → told e ≡ a → (Accepts a → (e .call .kept ≡ s .kept) × (balanceOf (e .call) ≡ s .balance))
+          (a : Answered StepResult) → told e ≡ a → (Accepts a → (e .call .kept ≡ s .kept) × (e .call .balance ≡ s .balance))
           → sum (before ++ (e .kept ++ rest)) ≡ balanceAfter a (s .balance) .total
       by-told (accepted r) t w = ap sum (lent-whole s e before rest p part (w tt .0)) ∙ accepted-sum e p r t
       by-told (refused number place) t w = ap sum (lent-same s e before rest p part number place t) ∙ b
@@ -143,7 +143,7 @@ module _ (s : Standing) (e : Event) (before rest : List ℕ) (p : Promised e) (p
   lent-gains = by-told (told e) refl whole
     where
       by-told :
-          (a : Answered Repair) → told e ≡ a → (Accepts a → (e .call .kept ≡ s .kept) × (balanceOf (e .call) ≡ s .balance))
+          (a : Answered StepResult) → told e ≡ a → (Accepts a → (e .call .kept ≡ s .kept) × (e .call .balance ≡ s .balance))
           → pos (sum (before ++ (e .kept ++ rest))) ≡ worth s +ℤ gainBy a (e .call .source)
       by-told (accepted r) t w =
           ap (λ l. pos (sum l)) (lent-whole s e before rest p part (w tt .0))
@@ -168,10 +168,10 @@ moves-sound = record { keeps = moves-keeps; gains = moves-gains; facts = moves-f
 
 -- THE theorem
 pub demand3 :
-    (opened : List ℕ) (answer : Opened) (opening : ℕ) → OpenContract opened answer → openTells answer ≡ accepted opening
-    → (es : List Event) (end : Standing) → Run Moves (record { kept = opened; balance = record { total = opening } }) es end → Account opening es end
+    (opened : List ℕ) (answer : Opened) (opening : Balance) → OpenContract opened answer → openTells answer ≡ accepted opening
+    → (es : List Event) (end : Standing) → Run Moves (record { kept = opened; balance = opening }) es end → Account opening es end
 demand3 opened answer opening p t es end r =
-    let b : sum opened ≡ opening = sym (answered-accepted (openVerdict opened) opening (sum opened) (sym t ∙ p .answers) .1) in
+    let b : sum opened ≡ opening .total = sym (ap (λ x. x .total) (answered-accepted (openVerdict opened) opening (openBalance opened) (sym t ∙ p .answers) .1)) in
     record {
       sums = run-gains moves-sound b r ∙ ap (λ n. pos n +ℤ sumOf gain es) b;
       standing = run-keeps moves-sound b r;
@@ -182,7 +182,7 @@ demand3 opened answer opening p t es end r =
 
 -- what Step's contract promises of a call that is lent what stands moves a run on, accepted or refused
 pub always-moves :
-    (s : Standing) (e : Event) → Promised e → e .call .kept ≡ s .kept → balanceOf (e .call) ≡ s .balance
+    (s : Standing) (e : Event) → Promised e → e .call .kept ≡ s .kept → e .call .balance ≡ s .balance
     → Moves s e (record { kept = e .kept; balance = balanceAfter (told e) (s .balance) })
 always-moves s e p k b =
     subst (λ l. Moves s e (record { kept = l; balance = balanceAfter (told e) (s .balance) })) (append-nil (e .kept))
@@ -193,9 +193,9 @@ pub promised : (c : StepCall) → (e : Event) × ((e .call ≡ c) × Promised e)
 promised c = (
   record {
     call = c;
-    answer = stepAnswer (answered (stepVerdict c) (repair (c .lists) (newTotal c)));
+    answer = stepAnswer (answered (stepVerdict c) (stepResult c));
     kept = after (stepVerdict c) (treeMasses (field (c .lists)) (newTotal c)) (c .kept);
     scratch = after (stepVerdict c) (cleared (scratchPerNode * nodes (c .lists)) (c .scratch)) (c .scratch);
   },
-  (refl, record { answers = answer-tells (answered (stepVerdict c) (repair (c .lists) (newTotal c))); leaves = record { writes = refl; clears = refl } }),
+  (refl, record { answers = answer-tells (answered (stepVerdict c) (stepResult c)); leaves = record { writes = refl; clears = refl } }),
 )

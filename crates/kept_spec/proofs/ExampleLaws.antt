@@ -12,7 +12,7 @@ use Rattle.qlt_spec.specs.Field.{outcome, outcomeNumber, lowIn, highIn, changeO
 use Rattle.qlt_spec.specs.Masses.{massBetween, groupOf, treeMass, treeMasses, sharedOf, treeShared}
 use Rattle.qlt_spec.specs.Checks.{checkNodes, checkLists, checkTree, boundsOrdered, checkOrder, checkSum, checkReach, checkShape, checkValues}
 use Rattle.qlt_spec.specs.Operation.{repair, cleared}
-use Rattle.kept_spec.specs.declared.Opened.the-variants.{Total}
+use Rattle.kept_spec.specs.declared.Opened.the-variants.{Accepted}
 use Rattle.kept_spec.specs.Open.{checkTotal, openVerdict, openTells, OpenContract}
 use Rattle.kept_spec.specs.Step.{checkKept, stepVerdict, stepTells}
 use Rattle.kept_spec.specs.Run.{Run}
@@ -20,7 +20,7 @@ use Rattle.kept_spec.specs.Account.{Promised, Moves, Account}
 use Rattle.kept_spec.specs.Example.{begin, events, last}
 use Rattle.kept_spec.proofs.Demand3.{demand3}
 
-pub opens : OpenContract (3 ∷ 5 ∷ []) (Total 8)
+pub opens : OpenContract (3 ∷ 5 ∷ []) (Accepted (begin .balance))
 unfolding sumTo checkCount checkTotal openVerdict openTells
 opens = record { answers = refl }
 
@@ -53,6 +53,6 @@ pub example : Run Moves begin events last
 example = runs contracts
 
 -- so the theorem speaks of it
-pub example-account : Account 8 events last
+pub example-account : Account (begin .balance) events last
 unfolding openTells
-example-account = demand3 (3 ∷ 5 ∷ []) (Total 8) 8 opens refl events last example
+example-account = demand3 (3 ∷ 5 ∷ []) (Accepted (begin .balance)) (begin .balance) opens refl events last example

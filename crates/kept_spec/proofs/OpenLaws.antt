@@ -1,4 +1,4 @@
--- What Open's verdict means, and that an answer tells its verdict and the total and nothing else. Assumes nothing.
+-- What Open's verdict means, and that an answer tells its verdict and the balance and nothing else. Assumes nothing.
 use mathlib.Core.Path.{_≡_, refl}
 use mathlib.Core.Logic.{_↔_}
 use mathlib.Core.List.{List, [], _∷_}
@@ -14,7 +14,7 @@ use Rattle.numbers.proofs.CheckLaws.{decides-unless, decides-then, decides-none
 use Rattle.numbers.proofs.ChainLaws.{refuse-with}
 use Rattle.numbers.specs.Lists.{sum}
 use Rattle.kept_spec.specs.declared.Opened.{Opened}
-use Rattle.kept_spec.specs.declared.Opened.the-variants.{Total, Refused}
+use Rattle.kept_spec.specs.declared.Opened.the-variants.{Accepted, Refused}
 use Rattle.kept_spec.specs.Open.{checkTotal, totalRule, openVerdict, openRules, OpenFits, openTells, openAnswer}
 
 -- ---- 13, which Step shares
@@ -57,5 +57,5 @@ unfolding openTells
 open-tells-injective = injective openAnswer back
   where
     back : (a : Opened) → openAnswer (openTells a) ≡ a
-    back (Total t) = refl
+    back (Accepted b) = refl
     back (Refused number place) = refl

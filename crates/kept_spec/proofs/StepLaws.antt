@@ -18,19 +18,18 @@ use Rattle.numbers.proofs.TestLaws.{eq-means, injective}
 use Rattle.numbers.proofs.SignedLaws.{le-parts, parts-le, from-zero-whole}
 use Rattle.numbers.proofs.CheckLaws.{decides-unless, decides-then, decides-append, holds-append, broken-append}
 use Rattle.numbers.proofs.ChainLaws.{extends-fail, isOne, not-broken, refuse-with}
-use Rattle.qlt_spec.specs.declared.Repair.{Repair}
 use Rattle.qlt_spec.specs.Field.{Lists, field, sumCells}
 use Rattle.qlt_spec.specs.Masses.{treeMasses}
 use Rattle.qlt_spec.specs.Facts.{FieldFacts}
 use Rattle.qlt_spec.specs.Checks.{shapeOf, checkValues, checkReach}
-use Rattle.qlt_spec.specs.Operation.{reconstructChecks, reconstructVerdict, FieldLengths, shapeRules, valueRules, reachRule, ShapeFits, ValuesFit, ReconstructFits, repair, RepairContract}
+use Rattle.qlt_spec.specs.Operation.{reconstructChecks, reconstructVerdict, FieldLengths, shapeRules, valueRules, reachRule, ShapeFits, ValuesFit, ReconstructFits, repair, RepairTells}
 use Rattle.qlt_spec.proofs.CheckLaws.{shape-decides, shape-holds, values-decides, values-hold, reaches-decides}
 use Rattle.qlt_spec.proofs.OperationLaws as operation
-use Rattle.qlt_spec.proofs.OperationLaws.{told-passed, told-repair, told-masses, told-kept}
+use Rattle.qlt_spec.proofs.OperationLaws.{told-passed, told-result, told-masses, told-kept}
 use Rattle.kept_spec.specs.declared.Stepped.{Stepped}
 use Rattle.kept_spec.specs.declared.Stepped.the-variants.{Accepted, Refused}
 use Rattle.kept_spec.specs.Open.{checkTotal, totalRule}
-use Rattle.kept_spec.specs.Step.{StepCall, next, newTotal, repairCall, checkKept, stepChecks, stepVerdict, keptRule, stepRules, StepFits, stepTells, stepAnswer}
+use Rattle.kept_spec.specs.Step.{StepCall, next, newTotal, repairCall, checkKept, stepChecks, stepVerdict, keptRule, stepRules, StepFits, StepResult, stepResult, stepTells, stepAnswer}
 use Rattle.kept_spec.specs.Account.{Event, told, Promised, AcceptedFacts, gain, gainBy}
 use Rattle.kept_spec.proofs.OpenLaws.{total-decides}
 
@@ -49,14 +48,14 @@ module _ (c : StepCall) where
 
   -- 12, 13 and 8
   abbrev totals : Checked
-  totals = first (checkKept (c .kept) (c .total) ∷ checkTotal (next c) ∷ checkReach (c .lists .safeLows) (c .lists .safeHighs) (newTotal c) ∷ [])
+  totals = first (checkKept (c .kept) (c .balance .total) ∷ checkTotal (next c) ∷ checkReach (c .lists .safeLows) (c .lists .safeHighs) (newTotal c) ∷ [])
 
   abbrev totalRules : List Rule
-  totalRules = keptRule (c .kept) (c .total) ∷ totalRule (next c) ∷ reachRule (c .lists) (newTotal c) ∷ []
+  totalRules = keptRule (c .kept) (c .balance .total) ∷ totalRule (next c) ∷ reachRule (c .lists) (newTotal c) ∷ []
 
   totals-decides : DecidesAll totals totalRules
   totals-decides =
-      decides-then _ _ _ _ (kept-decides (c .kept) (c .total))
+      decides-then _ _ _ _ (kept-decides (c .kept) (c .balance .total))
       (decides-then _ _ _ _ (total-decides (next c)) (reaches-decides (c .lists) (newTotal c)))
 
   -- accepted if every rule holds; refused with a number at a place if those before it hold and this one is broken there
@@ -113,7 +112,7 @@ module _ (c : StepCall) where
   step-extends =
       Extends.shared
       (Extends.shared
-      (Extends.extra (λ n p e. inl (kept-decides (c .kept) (c .total) .fails n p .0 e .0))
+      (Extends.extra (λ n p e. inl (kept-decides (c .kept) (c .balance .total) .fails n p .0 e .0))
       (Extends.extra (λ n p e. inr (total-decides (next c) .fails n p .0 e .0)) (Extends.shared Extends.end))))
 
   -- so a step that is refused is refused with 12 or 13, or as Reconstruct refuses that repair
@@ -132,7 +131,7 @@ module _ (c : StepCall) where
   pub record Past : Type 0 where
     pub shape : ShapeFits (c .lists) k s
     pub values : ValuesFit (c .lists)
-    pub adds-up : sum (c .kept) ≡ c .total
+    pub adds-up : sum (c .kept) ≡ c .balance .total
 
   past-by :
       (n : ℕ) → isOne (numbersOf (shapeRules (c .lists) k s)) n ≡ false → isOne (numbersOf (valueRules (c .lists))) n ≡ false → (n ≡ 12 → ⊥)
@@ -144,7 +143,7 @@ module _ (c : StepCall) where
       (broken-append (valueRules (c .lists)) totalRules number place .0 (a .1)))
       (broken-append (shapeRules (c .lists) k s) _ number place .0 h)
     where
-      adds : Broken totalRules number place → sum (c .kept) ≡ c .total
+      adds : Broken totalRules number place → sum (c .kept) ≡ c .balance .total
       adds g = unfold Broken in (⊎-elim (λ b. absurd (z (sym e ∙ b .0))) (λ b. b .0) g)
 
   -- a call refused with 13 or 8 is past them
@@ -156,7 +155,7 @@ module _ (c : StepCall) where
 
 -- ---- the answer
 
-pub answer-tells : (a : Answered Repair) → stepTells (stepAnswer a) ≡ a
+pub answer-tells : (a : Answered StepResult) → stepTells (stepAnswer a) ≡ a
 unfolding stepTells
 answer-tells (accepted r) = refl
 answer-tells (refused number place) = refl
@@ -167,7 +166,7 @@ unfolding stepTells
 step-tells-injective = injective stepAnswer back
   where
     back : (a : Stepped) → stepAnswer (stepTells a) ≡ a
-    back (Accepted r) = refl
+    back (Accepted r b) = refl
     back (Refused number place) = refl
 
 -- ---- an accepted call
@@ -203,29 +202,28 @@ module _ (e : Event) (p : Promised e) where
   abbrev c : StepCall
   c = e .call
 
-  abbrev Told : Answered Repair → Type 0
-  Told a = RepairContract (stepVerdict c) (repairCall c) a (e .kept) (e .scratch)
+  abbrev Told : Answered StepResult → Type 0
+  Told a = RepairTells (stepVerdict c) (repairCall c) (stepResult c) a (e .kept) (e .scratch)
 
-  -- a call that told a repair fits; its masses are the whole tree's and have every fact, and its scratch is cleared
-  module _ (r : Repair) (t : told e ≡ accepted r) where
+  -- a call that told a result fits; its masses are the whole tree's and have every fact, and its scratch is cleared
+  module _ (r : StepResult) (t : told e ≡ accepted r) where
     so : Told (accepted r)
     so = subst Told t p
 
     pub accepted-fits : StepFits c
     accepted-fits = step-accepts c .0 (told-passed so)
 
-    pub accepted-total : r .total ≡ newTotal c
-    unfolding repair
-    accepted-total = ap (λ q. q .total) (told-repair so)
+    pub accepted-total : r .balance .total ≡ newTotal c
+    accepted-total = ap (λ q. q .balance .total) (told-result so)
 
-    pub accepted-sum : sum (e .kept) ≡ r .total
+    pub accepted-sum : sum (e .kept) ≡ r .balance .total
     accepted-sum = ap sum (told-masses so) ∙ fits-sum c accepted-fits ∙ sym accepted-total
 
     pub accepted-facts : AcceptedFacts c r (e .kept)
     accepted-facts =
         record {
           moves = ap pos accepted-total ∙ accepted-fits .whole;
-          tells = told-repair so ∙ ap (repair (c .lists)) (sym accepted-total);
+          tells = ap (λ q. q .repair) (told-result so) ∙ ap (repair (c .lists)) (sym accepted-total);
           masses = told-masses so ∙ ap (treeMasses (field (c .lists))) (sym accepted-total);
           facts =
               subst (λ M. FieldFacts (field (c .lists)) M (e .kept)) (sym accepted-total)
@@ -240,7 +238,7 @@ module _ (e : Event) (p : Promised e) where
   pub step-account : pos (sum (e .kept)) ≡ pos (sum (c .kept)) +ℤ gain e
   step-account = by-told (told e) refl
     where
-      by-told : (a : Answered Repair) → told e ≡ a → pos (sum (e .kept)) ≡ pos (sum (c .kept)) +ℤ gainBy a (c .source)
+      by-told : (a : Answered StepResult) → told e ≡ a → pos (sum (e .kept)) ≡ pos (sum (c .kept)) +ℤ gainBy a (c .source)
       by-told (accepted r) t =
           ap pos (accepted-sum r t) ∙ accepted-facts r t .moves ∙ ap (λ n. pos n +ℤ c .source) (sym (accepted-fits r t .adds-up))
       by-told (refused number place) t = ap (λ l. pos (sum l)) (refused-keeps number place t .0) ∙ sym (+ℤ-idr (pos (sum (c .kept))))

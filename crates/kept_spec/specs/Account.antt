@@ -5,14 +5,14 @@ use mathlib.Core.List.{List, _++_}
 use Prim.Native.Nat.{ℕ}
 use lib.IntN.{ℤ, pos, _+ℤ_}
 use Rattle.numbers.specs.Checks.{Answered, accepted, refused, Broken}
-use Rattle.qlt_spec.specs.declared.Repair.{Repair}
 use Rattle.qlt_spec.specs.Field.{field, Meets}
 use Rattle.qlt_spec.specs.Masses.{treeMasses}
 use Rattle.qlt_spec.specs.Facts.{FieldFacts}
 use Rattle.numbers.specs.Lists.{sum, All}
 use Rattle.qlt_spec.specs.Operation.{repair}
+use Rattle.kept_spec.specs.declared.Balance.{Balance}
 use Rattle.kept_spec.specs.declared.Stepped.{Stepped}
-use Rattle.kept_spec.specs.Step.{StepCall, next, stepRules, StepFits, stepTells, StepContract}
+use Rattle.kept_spec.specs.Step.{StepCall, next, stepRules, StepFits, StepResult, stepTells, StepContract}
 use Rattle.kept_spec.specs.Run.{sumOf}
 
 -- a Step call with what it gave and left
@@ -22,38 +22,31 @@ pub record Event : Type 0 where
   pub kept : List ℕ
   pub scratch : List ℤ
 
--- what stands beside the kept masses: 01's total standing
-pub record Balance : Type 0 where
-  pub total : ℕ
-
+-- what stands between calls: the kept masses, and the balance beside them
 pub record Standing : Type 0 where
   pub kept : List ℕ
   pub balance : Balance
 
--- what a call was given of it
-abbrev pub balanceOf : StepCall → Balance
-balanceOf c = record { total = c .total }
-
 -- what an event told
-abbrev pub told : Event → Answered Repair
+abbrev pub told : Event → Answered StepResult
 told e = stepTells (e .answer)
 
-abbrev pub Accepts : Answered Repair → Type 0
+abbrev pub Accepts : Answered StepResult → Type 0
 Accepts (accepted r) = Unit
 Accepts (refused number place) = ⊥
 
 -- refused for its new total: with 13 or 8
-abbrev pub ForTotal : Answered Repair → Type 0
+abbrev pub ForTotal : Answered StepResult → Type 0
 ForTotal (accepted r) = ⊥
 ForTotal (refused number place) = (number ≡ 13) ⊎ (number ≡ 8)
 
--- the balance after a call: M if it was accepted, else as it was
-abbrev pub balanceAfter : Answered Repair → Balance → Balance
-balanceAfter (accepted r) b = record { total = r .total }
+-- the balance after a call: the one that it gave if it was accepted, else as it was
+abbrev pub balanceAfter : Answered StepResult → Balance → Balance
+balanceAfter (accepted r) b = r .balance
 balanceAfter (refused number place) b = b
 
 -- the source of an accepted call; a refused one brings none
-abbrev pub gainBy : Answered Repair → ℤ → ℤ
+abbrev pub gainBy : Answered StepResult → ℤ → ℤ
 gainBy (accepted r) source = source
 gainBy (refused number place) source = pos 0
 
@@ -68,7 +61,7 @@ Promised e = StepContract (e .call) (e .answer) (e .kept) (e .scratch)
 -- whole with the balance standing. Or it is lent other lists and is refused. Nobody else writes the kept masses.
 pub data Moves : Standing → Event → Standing → Type 0 where
   lent : {s : Standing} {e : Event} (before rest : List ℕ) → Promised e → s .kept ≡ before ++ (e .call .kept ++ rest)
-      → (Accepts (told e) → (e .call .kept ≡ s .kept) × (balanceOf (e .call) ≡ s .balance))
+      → (Accepts (told e) → (e .call .kept ≡ s .kept) × (e .call .balance ≡ s .balance))
       → Moves s e (record { kept = before ++ (e .kept ++ rest); balance = balanceAfter (told e) (s .balance) })
   elsewhere : {s : Standing} {e : Event} → Promised e → (Accepts (told e) → ⊥) → Moves s e s
 
@@ -79,16 +72,16 @@ abbrev pub Reachable : StepCall → Type 0
 Reachable c = (y : ℕ → ℤ) × Meets (field (c .lists) .n) (field (c .lists) .safeLow) (field (c .lists) .safeHigh) (next c) y
 
 -- what an accepted step gave and left
-pub record AcceptedFacts (c : StepCall) (r : Repair) (kept : List ℕ) : Type 0 where
-  -- 'its new total': M is the total given plus the source, and the answer's total is that M
-  pub moves : pos (r .total) ≡ next c
-  -- the outcome, the change and what was shared out are those of its field
-  pub tells : r ≡ repair (c .lists) (r .total)
+pub record AcceptedFacts (c : StepCall) (r : StepResult) (kept : List ℕ) : Type 0 where
+  -- 'its new total': M is the total given plus the source, and the new balance's total is that M
+  pub moves : pos (r .balance .total) ≡ next c
+  -- the outcome, the total, the change and what was shared out are those of its field
+  pub tells : r .repair ≡ repair (c .lists) (r .balance .total)
   -- 'the masses are those that document 01's whole tree gives for its field and new total'
-  pub masses : kept ≡ treeMasses (field (c .lists)) (r .total)
+  pub masses : kept ≡ treeMasses (field (c .lists)) (r .balance .total)
   -- 'all lie within their bounds exactly when some masses within them have that total; else they lie within their safety bounds, and no
   -- masses with that total miss the bounds by less in sum. At each inner node every other division of its mass lies at least as far'
-  pub facts : FieldFacts (field (c .lists)) (r .total) kept
+  pub facts : FieldFacts (field (c .lists)) (r .balance .total) kept
 
 -- the facts of one call
 pub record StepFacts (e : Event) : Type 0 where
@@ -96,14 +89,14 @@ pub record StepFacts (e : Event) : Type 0 where
   -- the rule that is broken, those before it holding
   pub accepts : Accepts (told e) ↔ StepFits (e .call)
   pub refuses : (number place : ℕ) → (told e ≡ refused number place) ↔ Broken (stepRules (e .call)) number place
-  pub gives : (r : Repair) → told e ≡ accepted r → AcceptedFacts (e .call) r (e .kept)
+  pub gives : (r : StepResult) → told e ≡ accepted r → AcceptedFacts (e .call) r (e .kept)
   -- 'a step accepted or refused for its new total was accepted exactly when some masses within its safety bounds reach it'
   pub decided : Accepts (told e) ⊎ ForTotal (told e) → Accepts (told e) ↔ Reachable (e .call)
 
 -- demand 3
-pub record Account (opening : ℕ) (es : List Event) (end : Standing) : Type 0 where
+pub record Account (opening : Balance) (es : List Event) (end : Standing) : Type 0 where
   -- 'these add up to the opening total plus the sources of the accepted steps'
-  pub sums : pos (sum (end .kept)) ≡ pos opening +ℤ sumOf gain es
+  pub sums : pos (sum (end .kept)) ≡ pos (opening .total) +ℤ sumOf gain es
   -- 'which is the total standing'
   pub standing : sum (end .kept) ≡ end .balance .total
   -- 'after each accepted step ..'

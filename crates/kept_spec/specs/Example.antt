@@ -6,6 +6,7 @@ use Prim.Native.Nat.{ℕ}
 use lib.IntN.{ℤ, pos, negsuc}
 use lib.ListN.{replicate}
 use Rattle.qlt_spec.specs.Field.{Lists, lists}
+use Rattle.kept_spec.specs.declared.Balance.{Balance}
 use Rattle.kept_spec.specs.declared.Stepped.the-variants.{Accepted, Refused}
 use Rattle.kept_spec.specs.Step.{stepCall}
 use Rattle.kept_spec.specs.Account.{Event, Standing}
@@ -14,15 +15,18 @@ use Rattle.kept_spec.specs.Account.{Event, Standing}
 abbrev pub two : Lists
 two = lists (pos 3 ∷ pos 5 ∷ []) (0 ∷ 0 ∷ []) (8 ∷ 8 ∷ []) (0 ∷ 0 ∷ []) (10 ∷ 10 ∷ []) (0 ∷ 0 ∷ []) (2 ∷ 2 ∷ 2 ∷ [])
 
+abbrev balance : ℕ → Balance
+balance total = record { total = total }
+
 abbrev pub begin : Standing
-begin = record { kept = 3 ∷ 5 ∷ []; balance = record { total = 8 } }
+begin = record { kept = 3 ∷ 5 ∷ []; balance = balance 8 }
 
 -- 8 + 2: one unit each, since both have room
 abbrev pub first : Event
 first =
     record {
-      call = stepCall 8 (3 ∷ 5 ∷ []) (pos 2) two (replicate 18 (pos 1));
-      answer = Accepted (record { outcome = 0; total = 10; change = 2; shared = 2 });
+      call = stepCall (balance 8) (3 ∷ 5 ∷ []) (pos 2) two (replicate 18 (pos 1));
+      answer = Accepted (record { outcome = 0; total = 10; change = 2; shared = 2 }) (balance 10);
       kept = 4 ∷ 6 ∷ [];
       scratch = replicate 18 (pos 0);
     }
@@ -31,7 +35,7 @@ first =
 abbrev refusal : ℕ → List ℕ → ℤ → ℕ → Event
 refusal total kept source number =
     record {
-      call = stepCall total kept source two (replicate 18 (pos 1));
+      call = stepCall (balance total) kept source two (replicate 18 (pos 1));
       answer = Refused number 0;
       kept = kept;
       scratch = replicate 18 (pos 1);
@@ -57,8 +61,8 @@ fifth = refusal 7 (7 ∷ 7 ∷ 7 ∷ []) (pos 1) 3
 abbrev pub sixth : Event
 sixth =
     record {
-      call = stepCall 10 (4 ∷ 6 ∷ []) (negsuc 3) two (replicate 18 (pos 1));
-      answer = Accepted (record { outcome = 0; total = 6; change = 2; shared = 2 });
+      call = stepCall (balance 10) (4 ∷ 6 ∷ []) (negsuc 3) two (replicate 18 (pos 1));
+      answer = Accepted (record { outcome = 0; total = 6; change = 2; shared = 2 }) (balance 6);
       kept = 2 ∷ 4 ∷ [];
       scratch = replicate 18 (pos 0);
     }
@@ -67,4 +71,4 @@ abbrev pub events : List Event
 events = first ∷ second ∷ third ∷ fourth ∷ fifth ∷ sixth ∷ []
 
 abbrev pub last : Standing
-last = record { kept = 2 ∷ 4 ∷ []; balance = record { total = 6 } }
+last = record { kept = 2 ∷ 4 ∷ []; balance = balance 6 }

@@ -9,8 +9,9 @@ use lib.ListN.{length}
 use Rattle.numbers.specs.declared.Checked.{Checked}
 use Rattle.numbers.specs.Checks.{Answered, accepted, refused, answered, unless, first, checkCount, Rule, rule, maxTotal}
 use Rattle.numbers.specs.Lists.{sum}
+use Rattle.kept_spec.specs.declared.Balance.{Balance}
 use Rattle.kept_spec.specs.declared.Opened.{Opened}
-use Rattle.kept_spec.specs.declared.Opened.the-variants.{Total, Refused}
+use Rattle.kept_spec.specs.declared.Opened.the-variants.{Accepted, Refused}
 
 -- 13: a total below 0 or above 2147483647
 unfoldable pub checkTotal : ℤ → Checked
@@ -35,15 +36,19 @@ pub record OpenFits (kept : List ℕ) : Type 0 where
   pub few : length kept ≤ 512
   pub small : sum kept ≤ maxTotal
 
+-- the balance that an accepted opening gives
+abbrev pub openBalance : List ℕ → Balance
+openBalance kept = record { total = sum kept }
+
 -- what an answer tells, and the answer that tells it
-unfoldable pub openTells : Opened → Answered ℕ
-openTells (Total t) = accepted t
+unfoldable pub openTells : Opened → Answered Balance
+openTells (Accepted b) = accepted b
 openTells (Refused number place) = refused number place
 
-abbrev pub openAnswer : Answered ℕ → Opened
-openAnswer (accepted t) = Total t
+abbrev pub openAnswer : Answered Balance → Opened
+openAnswer (accepted b) = Accepted b
 openAnswer (refused number place) = Refused number place
 
 -- the whole contract of the operation
 pub record OpenContract (kept : List ℕ) (answer : Opened) : Type 0 where
-  pub answers : openTells answer ≡ answered (openVerdict kept) (sum kept)
+  pub answers : openTells answer ≡ answered (openVerdict kept) (openBalance kept)

@@ -12,25 +12,26 @@ use Rattle.qlt_spec.specs.declared.Repair.{Repair}
 use Rattle.qlt_spec.specs.Field.{Lists}
 use Rattle.numbers.specs.Lists.{sum}
 use Rattle.qlt_spec.specs.Checks.{shapeOf, checkValues, checkReach}
-use Rattle.qlt_spec.specs.Operation.{ReconstructCall, reconstructCall, shapeRules, valueRules, reachRule, ShapeFits, ValuesFit, Reaches, RepairContract}
+use Rattle.qlt_spec.specs.Operation.{ReconstructCall, reconstructCall, shapeRules, valueRules, reachRule, ShapeFits, ValuesFit, Reaches, repair, RepairTells}
+use Rattle.kept_spec.specs.declared.Balance.{Balance}
 use Rattle.kept_spec.specs.declared.Stepped.{Stepped}
 use Rattle.kept_spec.specs.declared.Stepped.the-variants.{Accepted, Refused}
 use Rattle.kept_spec.specs.Open.{checkTotal, totalRule}
 
 -- all that a call is given
 pub record StepCall : Type 0 where
-  pub total : ℕ
+  pub balance : Balance
   pub kept : List ℕ
   pub source : ℤ
   pub lists : Lists
   pub scratch : List ℤ
 
-abbrev pub stepCall : ℕ → List ℕ → ℤ → Lists → List ℤ → StepCall
-stepCall total kept source lists scratch = record { total = total; kept = kept; source = source; lists = lists; scratch = scratch }
+abbrev pub stepCall : Balance → List ℕ → ℤ → Lists → List ℤ → StepCall
+stepCall balance kept source lists scratch = record { balance = balance; kept = kept; source = source; lists = lists; scratch = scratch }
 
 -- the total given plus the source; as a natural number it is the field's M
 abbrev pub next : StepCall → ℤ
-next c = pos (c .total) +ℤ c .source
+next c = pos (c .balance .total) +ℤ c .source
 
 abbrev pub newTotal : StepCall → ℕ
 newTotal c = over (next c)
@@ -50,7 +51,7 @@ abbrev pub stepChecks : StepCall → List Checked
 stepChecks c =
     shapeOf (length (c .kept)) (c .lists) (length (c .scratch))
     ∷ checkValues (c .lists)
-    ∷ checkKept (c .kept) (c .total)
+    ∷ checkKept (c .kept) (c .balance .total)
     ∷ checkTotal (next c)
     ∷ checkReach (c .lists .safeLows) (c .lists .safeHighs) (newTotal c)
     ∷ []
@@ -67,27 +68,35 @@ abbrev pub stepRules : StepCall → List Rule
 stepRules c =
     shapeRules (c .lists) (length (c .kept)) (length (c .scratch))
     ++ (valueRules (c .lists)
-    ++ (keptRule (c .kept) (c .total) ∷ totalRule (next c) ∷ reachRule (c .lists) (newTotal c) ∷ []))
+    ++ (keptRule (c .kept) (c .balance .total) ∷ totalRule (next c) ∷ reachRule (c .lists) (newTotal c) ∷ []))
 
 pub record StepFits (c : StepCall) : Type 0 where
   pub shape : ShapeFits (c .lists) (length (c .kept)) (length (c .scratch))
   pub values : ValuesFit (c .lists)
-  pub adds-up : sum (c .kept) ≡ c .total
+  pub adds-up : sum (c .kept) ≡ c .balance .total
   pub whole : pos (newTotal c) ≡ next c
   pub small : newTotal c ≤ maxTotal
   pub reach : Reaches (c .lists) (newTotal c)
 
 -- ---- the answer, and the lists at exit
 
+-- what an accepted step gives beside the masses: the repair of its field for the new total, and the new balance
+pub record StepResult : Type 0 where
+  pub repair : Repair
+  pub balance : Balance
+
+abbrev pub stepResult : StepCall → StepResult
+stepResult c = record { repair = repair (c .lists) (newTotal c); balance = record { total = newTotal c } }
+
 -- what an answer tells, and the answer that tells it
-unfoldable pub stepTells : Stepped → Answered Repair
-stepTells (Accepted r) = accepted r
+unfoldable pub stepTells : Stepped → Answered StepResult
+stepTells (Accepted r b) = accepted (record { repair = r; balance = b })
 stepTells (Refused number place) = refused number place
 
-abbrev pub stepAnswer : Answered Repair → Stepped
-stepAnswer (accepted r) = Accepted r
+abbrev pub stepAnswer : Answered StepResult → Stepped
+stepAnswer (accepted r) = Accepted (r .repair) (r .balance)
 stepAnswer (refused number place) = Refused number place
 
--- the whole contract of the operation: that of a repair for the new total, by Step's verdict
+-- the whole contract of the operation: it leaves what the repair for the new total leaves, by Step's verdict
 abbrev pub StepContract : StepCall → Stepped → List ℕ → List ℤ → Type 0
-StepContract c answer kept scratch = RepairContract (stepVerdict c) (repairCall c) (stepTells answer) kept scratch
+StepContract c answer kept scratch = RepairTells (stepVerdict c) (repairCall c) (stepResult c) (stepTells answer) kept scratch

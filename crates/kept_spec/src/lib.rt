@@ -1,14 +1,25 @@
 // The kept field: what Open and Step check, answer and write, runs of Step calls, and the one theorem about every run. Definitions (specs/)
 // and laws (proofs/) alone; the code is in the crate `kept`. Relies on `qlt_spec`, `caas_spec` and `numbers`.
 
-// Open's answer: the total of the kept masses, or the refusal with 01's number and place.
+// What stands beside the kept masses: 01's total standing.
+pub struct Balance {
+    pub total: u32,
+}
+
+// Open's answer: the balance of the kept masses, or the refusal with 01's number and place.
 pub enum Opened {
-    Total(u32),
+    Accepted(Balance),
     Refused { number: u32, place: u32 },
 }
 
-// Step's answer: the masses have replaced the kept ones, or the call is refused.
+// Step's answer: the masses have replaced the kept ones and have this balance, or the call is refused.
 pub enum Stepped {
-    Accepted(qlt_spec::Repair),
-    Refused { number: u32, place: u32 },
+    Accepted {
+        repair: qlt_spec::Repair,
+        balance: Balance,
+    },
+    Refused {
+        number: u32,
+        place: u32,
+    },
 }

@@ -7,6 +7,7 @@
 ghost use Prim.Native.Nat.{_<_, _≤_};
 use draws::draw;
 use draws::less;
+use kept_spec::Balance;
 use kept_spec::Opened;
 use kept_spec::Stepped;
 use qlt_spec::Repair;
@@ -15,12 +16,12 @@ mod draws;
 mod fields;
 mod output;
 
-// The generator's state, the calls accepted and refused so far, the total standing, and what the accepted calls have shared out.
+// The generator's state, the calls accepted and refused so far, the balance standing, and what the accepted calls have shared out.
 pub struct Run {
     pub state: u32,
     pub accepted: u32,
     pub refused: u32,
-    pub total: u32,
+    pub balance: Balance,
     pub shared: u64,
 }
 
@@ -29,12 +30,14 @@ fn more(x: u32) -> u32 {
     x % 1000000000 + 1
 }
 
-// The total given: the one standing, or by fault 1 another.
-fn given_total(total: u32, fault: u32) -> u32 {
+// The balance given: the one standing, or by fault 1 another.
+fn given_balance(balance: Balance, fault: u32) -> Balance {
     if fault == 1 {
-        return more(total);
+        return Balance {
+            total: more(balance.total),
+        };
     }
-    total
+    balance
 }
 
 // The source given: the one drawn, or by faults 4 and 5 one that is refused.
@@ -51,23 +54,24 @@ fn given_source(drawn: u32, fault: u32) -> i32
 }
 
 // The run after an accepted call.
-fn accepted(run: Run, state: u32, repair: Repair) -> Run {
+fn accepted(run: Run, state: u32, repair: Repair, balance: Balance) -> Run {
     Run {
         state,
         accepted: more(run.accepted),
         refused: run.refused,
-        total: repair.total,
+        balance,
         shared: run.shared % 1000000000000 + repair.shared % 1000000000000,
     }
 }
 
 // The run after a refused call.
 fn refused(run: Run, state: u32) -> Run {
+    let balance = run.balance;
     Run {
         state,
         accepted: run.accepted,
         refused: more(run.refused),
-        total: run.total,
+        balance,
         shared: run.shared,
     }
 }
@@ -75,14 +79,14 @@ fn refused(run: Run, state: u32) -> Run {
 // The run after a call.
 fn counted(run: Run, state: u32, answer: Stepped) -> Run {
     match answer {
-        Stepped::Accepted(repair) => accepted(run, state, repair),
+        Stepped::Accepted { repair, balance } => accepted(run, state, repair, balance),
         Stepped::Refused { number, place } => refused(run, state),
     }
 }
 
 // Steps by the first m parents, and with a scratch of its own.
 fn step_by(
-    total: u32,
+    balance: Balance,
     kept: &mut [u32; 8],
     source: i32,
     targets: &[i32; 8],
@@ -99,7 +103,7 @@ fn step_by(
     let mut scratch = [0i64; 90];
     let nodes = &parents[..];
     kept::step(
-        total,
+        balance,
         kept,
         source,
         targets,
@@ -137,8 +141,9 @@ fn one_call(run: Run, kept: &mut [u32; 8]) -> Run {
     fields::cross(fault.value, &mut lows, &mut highs);
     let mut parents = [0u32; 15];
     fields::fill_parents(kind.value, fault.value, &mut parents);
+    let balance = run.balance;
     let answer = step_by(
-        given_total(run.total, fault.value),
+        given_balance(balance, fault.value),
         kept,
         given_source(source.value, fault.value),
         &targets,
@@ -165,12 +170,12 @@ fn some_calls(run: Run, kept: &mut [u32; 8]) -> Run {
 }
 
 // Makes 24 times 500 calls, and prints a line after each 500.
-fn all_calls(total: u32, kept: &mut [u32; 8]) {
+fn all_calls(balance: Balance, kept: &mut [u32; 8]) {
     let mut now = Run {
         state: 1,
         accepted: 0,
         refused: 0,
-        total,
+        balance,
         shared: 0,
     };
     let mut i: u64 = 0;
@@ -186,9 +191,9 @@ fn main() {
     let mut kept = [1000u32; 8];
     let answer = kept::open(&kept);
     match answer {
-        Opened::Total(total) => {
-            output::show_open(total);
-            all_calls(total, &mut kept);
+        Opened::Accepted(balance) => {
+            output::show_open(balance);
+            all_calls(balance, &mut kept);
         }
         Opened::Refused { number, place } => {}
     }

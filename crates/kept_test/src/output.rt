@@ -1,13 +1,14 @@
 // The lines of text.
 use crate::Run;
+use kept_spec::Balance;
 use test_support::output::end_line;
 use test_support::output::print_check;
 use test_support::output::print_named;
 use test_support::output::wide;
 
-// The total that Open returned.
-pub fn show_open(total: u32) {
-    print_named(b"open", wide(total));
+// The balance that Open returned.
+pub fn show_open(balance: Balance) {
+    print_named(b"open", wide(balance.total));
     end_line();
 }
 
@@ -17,7 +18,7 @@ pub fn show(calls: u64, run: Run, kept: &[u32; 8]) {
     print_named(b"calls", calls);
     print_named(b" accepted", wide(run.accepted));
     print_named(b" refused", wide(run.refused));
-    print_named(b" total", wide(run.total));
+    print_named(b" total", wide(run.balance.total));
     print_check(kept);
     print_named(b" shared", run.shared);
     end_line();

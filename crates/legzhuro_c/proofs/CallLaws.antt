@@ -10,7 +10,7 @@ use mir.Syntax.{w64}
 use mir.Val.{toZ, ofZ}
 use Rattle.numbers.specs.declared.Checked.{Checked}
 use Rattle.numbers.specs.declared.Checked.the-variants.{Pass, Fail}
-use Rattle.numbers.specs.Lists.{written, sum}
+use Rattle.numbers.specs.Lists.{written}
 use Rattle.numbers.specs.Checks.{Answered, accepted, refused, answered, after, both, first, checkCount, checkLong}
 use Rattle.numbers.proofs.CheckLaws.{answered-accepted, answered-refused, after-pass, after-fail, both-pass, first-append, both-first, both-second, long-decides}
 use Rattle.caas_spec.specs.declared.SplitAnswer.{SplitAnswer}
@@ -20,21 +20,22 @@ use Rattle.caas_spec.proofs.OperationLaws.{split-accepts, split-deficit-read}
 use Rattle.qlt_spec.specs.declared.Repair.{Repair}
 use Rattle.qlt_spec.specs.Field.{cells, nodes}
 use Rattle.qlt_spec.specs.Checks.{checkNodes}
-use Rattle.qlt_spec.specs.Operation.{repair, Leaves}
-use Rattle.qlt_spec.proofs.OperationLaws.{contract-refused}
+use Rattle.qlt_spec.specs.Operation.{Leaves}
+use Rattle.qlt_spec.proofs.OperationLaws.{leaves-refused}
+use Rattle.kept_spec.specs.declared.Balance.{Balance}
 use Rattle.kept_spec.specs.declared.Opened.{Opened}
 use Rattle.kept_spec.specs.declared.Opened.the-variants as opened
 use Rattle.kept_spec.specs.declared.Stepped.{Stepped}
 use Rattle.kept_spec.specs.declared.Stepped.the-variants as stepped
-use Rattle.kept_spec.specs.Open.{openVerdict, openTells, OpenContract}
-use Rattle.kept_spec.specs.Step.{StepCall, newTotal, repairCall, stepVerdict, stepTells, StepContract}
+use Rattle.kept_spec.specs.Open.{openVerdict, openBalance, openTells, OpenContract}
+use Rattle.kept_spec.specs.Step.{StepCall, repairCall, stepVerdict, stepResult, stepTells, StepContract}
 use Rattle.doubles_spec.specs.declared.CellDoubles.{CellDoubles}
 use Rattle.doubles_spec.specs.declared.CellUnits.{CellUnits}
 use Rattle.doubles_spec.specs.declared.Imported.{Imported}
 use Rattle.doubles_spec.specs.declared.Imported.the-variants as imported
 use Rattle.doubles_spec.specs.Import.{importVerdict, importUnits, importTells, ImportContract}
 use Rattle.doubles_spec.specs.Export.{exportVerdict}
-use Rattle.legzhuro_c.specs.Calls.{returned, splitCallVerdict, SplitReturns, openCallVerdict, OpenReturns, stepValues, stepCallVerdict, repairWords, StepReturns, importCallVerdict, unitsList, ImportReturns, exportCallVerdict, ValueReturns}
+use Rattle.legzhuro_c.specs.Calls.{returned, splitCallVerdict, SplitReturns, openValues, openCallVerdict, balanceWords, OpenReturns, stepValues, stepCallVerdict, repairWords, StepReturns, importCallVerdict, unitsList, ImportReturns, exportCallVerdict, ValueReturns}
 
 -- ---- what a verdict makes of the return value and of a lent list
 
@@ -114,24 +115,24 @@ module _ (c : SplitCall) (deficit : List ℤ) where
 -- ---- Open
 
 module _ (kept answer : List ℕ) where
-  pub open-no-room : length answer < 1 → OpenReturns kept answer 3 answer
+  pub open-no-room : length answer < openValues → OpenReturns kept answer 3 answer
   unfolding openCallVerdict
   open-no-room h =
-      let v = no-room (length answer) 1 (openVerdict kept) h in
+      let v = no-room (length answer) openValues (openVerdict kept) h in
       record { returns = ap returned (sym v); writes = after-fail _ answer v }
 
-  module _ {a : Opened} (p : OpenContract kept a) (h : 1 ≤ length answer) where
-    pub open-done : {total r : ℕ} {answer′ : List ℕ} → a ≡ opened.Total total → r ≡ 0 → answer′ ≡ written answer 0 (total ∷ []) → OpenReturns kept answer r answer′
+  module _ {a : Opened} (p : OpenContract kept a) (h : openValues ≤ length answer) where
+    pub open-done : {b : Balance} {r : ℕ} {answer′ : List ℕ} → a ≡ opened.Accepted b → r ≡ 0 → answer′ ≡ written answer 0 (balanceWords b) → OpenReturns kept answer r answer′
     unfolding openTells openCallVerdict
-    open-done {total} e z w =
-        let t = answered-accepted (openVerdict kept) total (sum kept) (ap openTells (sym e) ∙ p .answers) in
-        let v = room (length answer) 1 (openVerdict kept) h ∙ t .0 in
-        record { returns = returned-pass v z; writes = after-pass answer v (w ∙ ap (λ x. written answer 0 (x ∷ [])) (t .1)) }
+    open-done {b} e z w =
+        let t = answered-accepted (openVerdict kept) b (openBalance kept) (ap openTells (sym e) ∙ p .answers) in
+        let v = room (length answer) openValues (openVerdict kept) h ∙ t .0 in
+        record { returns = returned-pass v z; writes = after-pass answer v (w ∙ ap (λ x. written answer 0 (balanceWords x)) (t .1)) }
 
     pub open-refused : {r number place : ℕ} → a ≡ opened.Refused number place → r ≡ number + place * 2 ^ 32 → OpenReturns kept answer r answer
     unfolding openTells openCallVerdict
     open-refused {number = number} {place = place} e z =
-        let v = room (length answer) 1 (openVerdict kept) h ∙ answered-refused (openVerdict kept) (sum kept) number place (ap openTells (sym e) ∙ p .answers) in
+        let v = room (length answer) openValues (openVerdict kept) h ∙ answered-refused (openVerdict kept) (openBalance kept) number place (ap openTells (sym e) ∙ p .answers) in
         record { returns = returned-fail v z; writes = after-fail _ answer v }
 
 -- ---- Step
@@ -149,7 +150,7 @@ module _ (c : StepCall) (answer : List ℕ) where
   pub step-shape-refused : {r number place : ℕ} → stepShape c answer ≡ Fail number place → r ≡ number + place * 2 ^ 32 → StepReturns c answer r (c .kept) (c .scratch) answer
   step-shape-refused e z =
       let v = step-chain ∙ ap (λ w. both w (stepVerdict c)) e in
-      record { returns = returned-fail v z; leaves = contract-refused (repairCall c) v .leaves; writes = after-fail _ answer v }
+      record { returns = returned-fail v z; leaves = leaves-refused (repairCall c) v; writes = after-fail _ answer v }
 
   module _ (e : stepShape c answer ≡ Pass) where
     -- a call that passes them has room for its values
@@ -166,22 +167,22 @@ module _ (c : StepCall) (answer : List ℕ) where
       leaves-on = subst (λ v. Leaves v (repairCall c) kept scratch) (sym past-shape) (p .leaves)
 
       pub step-done :
-          {x : Repair} {r : ℕ} {answer′ : List ℕ} → a ≡ stepped.Accepted x → r ≡ 0 → answer′ ≡ written answer 0 (repairWords x)
+          {x : Repair} {b : Balance} {r : ℕ} {answer′ : List ℕ} → a ≡ stepped.Accepted x b → r ≡ 0 → answer′ ≡ written answer 0 (repairWords x)
           → StepReturns c answer r kept scratch answer′
       unfolding stepTells
-      step-done {x} s z w =
-          let t = answered-accepted (stepVerdict c) x (repair (c .lists) (newTotal c)) (ap stepTells (sym s) ∙ p .answers) in
+      step-done {x} {b} s z w =
+          let t = answered-accepted (stepVerdict c) (record { repair = x; balance = b }) (stepResult c) (ap stepTells (sym s) ∙ p .answers) in
           let v = past-shape ∙ t .0 in
           record {
             returns = returned-pass v z;
             leaves = leaves-on;
-            writes = after-pass answer v (w ∙ ap (λ y. written answer 0 (repairWords y)) (t .1));
+            writes = after-pass answer v (w ∙ ap (λ y. written answer 0 (repairWords (y .repair))) (t .1));
           }
 
       pub step-refused : {r number place : ℕ} → a ≡ stepped.Refused number place → r ≡ number + place * 2 ^ 32 → StepReturns c answer r kept scratch answer
       unfolding stepTells
       step-refused {number = number} {place = place} s z =
-          let v = past-shape ∙ answered-refused (stepVerdict c) (repair (c .lists) (newTotal c)) number place (ap stepTells (sym s) ∙ p .answers) in
+          let v = past-shape ∙ answered-refused (stepVerdict c) (stepResult c) number place (ap stepTells (sym s) ∙ p .answers) in
           record { returns = returned-fail v z; leaves = leaves-on; writes = after-fail _ answer v }
 
 -- ---- Import

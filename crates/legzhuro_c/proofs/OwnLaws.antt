@@ -12,19 +12,19 @@ use lib.ListN.{length}
 use lib.Ieee.{Float}
 use Rattle.numbers.specs.declared.Checked.{Checked}
 use Rattle.numbers.specs.declared.Checked.the-variants.{Pass, Fail}
-use Rattle.numbers.specs.Lists.{at, atℤ, written, sum}
+use Rattle.numbers.specs.Lists.{atℤ, written}
 use Rattle.numbers.specs.Checks.{Answered, accepted, refused, answered, unless, both, checkCount, checkLong, Rule, rule, DecidesAll, OneOf, RefuseWith}
 use Rattle.numbers.proofs.TestLaws.{eq-means, lt-means, and-means, and-first, and-second}
 use Rattle.numbers.proofs.CheckLaws.{both-pass}
 use Rattle.numbers.proofs.ChainLaws.{fails-number, broken-first}
 use Rattle.caas_spec.specs.Operation.{SplitCall, items, splitVerdict, splitMasses, splitDeficit, splitTells, splitAnswer, SplitContract}
 use Rattle.caas_spec.proofs.OperationLaws.{split-decides, split-numbers}
-use Rattle.qlt_spec.specs.declared.Repair.{Repair}
 use Rattle.qlt_spec.specs.Field.{cells, nodes}
 use Rattle.qlt_spec.specs.Checks.{checkNodes, checkShape}
 use Rattle.qlt_spec.specs.Operation.{repair, Leaves}
-use Rattle.kept_spec.specs.Open.{openVerdict, openTells, openAnswer, OpenContract}
-use Rattle.kept_spec.specs.Step.{StepCall, newTotal, repairCall, stepVerdict, stepAnswer, StepContract}
+use Rattle.kept_spec.specs.declared.Balance.{Balance}
+use Rattle.kept_spec.specs.Open.{openVerdict, openBalance, openTells, openAnswer, OpenContract}
+use Rattle.kept_spec.specs.Step.{StepCall, repairCall, stepVerdict, stepResult, stepAnswer, StepContract}
 use Rattle.kept_spec.proofs.OpenLaws.{open-decides, open-numbers}
 use Rattle.kept_spec.proofs.StepLaws.{step-decides, step-numbers, answer-tells}
 use Rattle.doubles_spec.specs.declared.CellDoubles.{CellDoubles}
@@ -36,7 +36,7 @@ use Rattle.doubles_spec.specs.ExportSingle.{singleTells, singleAnswer, SingleCo
 use Rattle.doubles_spec.proofs.ImportLaws.{import-decides, import-refuses, import-numbers}
 use Rattle.doubles_spec.proofs.ExportLaws.{export-decides, export-numbers, export-meets}
 use Rattle.doubles_spec.proofs.SingleLaws.{single-meets}
-use Rattle.legzhuro_c.specs.Calls.{returned, toldBy, splitCallVerdict, SplitReturns, openCallVerdict, OpenReturns, stepValues, stepCallVerdict, repairWords, StepReturns, importCallVerdict, unitsList, ImportReturns, exportCallVerdict, ValueReturns, ExportReturns, SingleReturns, repairIn, unitsIn, valueIn}
+use Rattle.legzhuro_c.specs.Calls.{returned, toldBy, splitCallVerdict, SplitReturns, openValues, openCallVerdict, balanceWords, OpenReturns, stepValues, stepCallVerdict, repairWords, StepReturns, importCallVerdict, unitsList, ImportReturns, exportCallVerdict, ValueReturns, ExportReturns, SingleReturns, balanceIn, resultIn, unitsIn, valueIn}
 use Rattle.legzhuro_c.proofs.CallLaws.{after-by, long-passes, long-fails, room, no-room}
 
 -- ---- a return value tells its verdict
@@ -146,41 +146,42 @@ module _ (c : SplitCall) (deficit : List ℤ) where
 pub open-numbered : (kept : List ℕ) → Numbered (openVerdict kept)
 open-numbered kept = numbered _ (open-decides kept) (open-numbers kept) refl
 
-open-tells : (a : Answered ℕ) → openTells (openAnswer a) ≡ a
+open-tells : (a : Answered Balance) → openTells (openAnswer a) ≡ a
 unfolding openTells
-open-tells (accepted t) = refl
+open-tells (accepted b) = refl
 open-tells (refused number place) = refl
 
-total-read : (answer : List ℕ) (t : ℕ) → at (written answer 0 (t ∷ [])) 0 ≡ t
+balance-read : (answer : List ℕ) (b : Balance) → balanceIn (written answer 0 (balanceWords b)) ≡ b
 unfolding written
-total-read answer t = refl
+balance-read answer b = refl
 
 module _ (kept answer : List ℕ) (r : ℕ) (answer′ : List ℕ) where
-  pub open-own : 1 ≤ length answer → OpenReturns kept answer r answer′ → OpenContract kept (openAnswer (toldBy r (at answer′ 0)))
+  pub open-own : openValues ≤ length answer → OpenReturns kept answer r answer′ → OpenContract kept (openAnswer (toldBy r (balanceIn answer′)))
   unfolding openCallVerdict
   open-own h q =
-      let v = room (length answer) 1 (openVerdict kept) h in
+      let v = room (length answer) openValues (openVerdict kept) h in
+      let b = openBalance kept in
       record {
         answers =
-            open-tells (toldBy r (at answer′ 0))
-            ∙ told-own (openVerdict kept) r (at answer′ 0) (sum kept) (open-numbered kept) (q .returns ∙ ap returned v)
-            (λ e. ap (λ l. at l 0) (q .writes ∙ after-by (written answer 0 (sum kept ∷ [])) answer (v ∙ e)) ∙ total-read answer (sum kept));
+            open-tells (toldBy r (balanceIn answer′))
+            ∙ told-own (openVerdict kept) r (balanceIn answer′) b (open-numbered kept) (q .returns ∙ ap returned v)
+            (λ e. ap balanceIn (q .writes ∙ after-by (written answer 0 (balanceWords b)) answer (v ∙ e)) ∙ balance-read answer b);
       }
 
-  pub open-short : length answer < 1 → OpenReturns kept answer r answer′ → (r ≡ 3) × (answer′ ≡ answer)
+  pub open-short : length answer < openValues → OpenReturns kept answer r answer′ → (r ≡ 3) × (answer′ ≡ answer)
   unfolding openCallVerdict
   open-short h q =
-      let v = no-room (length answer) 1 (openVerdict kept) h in
-      (q .returns ∙ ap returned v, q .writes ∙ after-by (written answer 0 (sum kept ∷ [])) answer v)
+      let v = no-room (length answer) openValues (openVerdict kept) h in
+      (q .returns ∙ ap returned v, q .writes ∙ after-by _ answer v)
 
 -- ---- Step
 
 pub step-numbered : (c : StepCall) → Numbered (stepVerdict c)
 step-numbered c = numbered _ (step-decides c) (step-numbers c) refl
 
-repair-read : (answer : List ℕ) (x : Repair) → repairIn (written answer 0 (repairWords x)) ≡ x
-unfolding written
-repair-read answer x = refl
+result-read : (c : StepCall) (answer : List ℕ) → resultIn (written answer 0 (repairWords (stepResult c .repair))) ≡ stepResult c
+unfolding written repair
+result-read c answer = refl
 
 module _ (c : StepCall) (answer : List ℕ) where
   -- with room for its values, the call's verdict is Step's: 1 and 2 stand in it once more
@@ -209,15 +210,14 @@ module _ (c : StepCall) (answer : List ℕ) where
       go true true v e w = (3, (ap (λ x. both x w) e, inr (inr refl)))
 
   module _ (r : ℕ) (kept : List ℕ) (scratch : List ℤ) (answer′ : List ℕ) where
-    pub step-own : stepValues ≤ length answer → StepReturns c answer r kept scratch answer′ → StepContract c (stepAnswer (toldBy r (repairIn answer′))) kept scratch
+    pub step-own : stepValues ≤ length answer → StepReturns c answer r kept scratch answer′ → StepContract c (stepAnswer (toldBy r (resultIn answer′))) kept scratch
     step-own h q =
         let v = step-long h in
-        let x = repair (c .lists) (newTotal c) in
         record {
           answers =
-              answer-tells (toldBy r (repairIn answer′))
-              ∙ told-own (stepVerdict c) r (repairIn answer′) x (step-numbered c) (q .returns ∙ ap returned v)
-              (λ e. ap repairIn (q .writes ∙ after-by (written answer 0 (repairWords x)) answer (v ∙ e)) ∙ repair-read answer x);
+              answer-tells (toldBy r (resultIn answer′))
+              ∙ told-own (stepVerdict c) r (resultIn answer′) (stepResult c) (step-numbered c) (q .returns ∙ ap returned v)
+              (λ e. ap resultIn (q .writes ∙ after-by (written answer 0 (repairWords (stepResult c .repair))) answer (v ∙ e)) ∙ result-read c answer);
           leaves = subst (λ w. Leaves w (repairCall c) kept scratch) v (q .leaves);
         }
 

@@ -9,15 +9,15 @@ use native.Mathlib.Omega.{arith}
 use lib.Dec.{leb}
 use lib.ListN.{length}
 use borrow.Author.Tests.{leb-true, leb-false}
-use Rattle.numbers.specs.Lists.{at}
 use Rattle.numbers.specs.Checks.{accepted}
+use Rattle.kept_spec.specs.declared.Balance.{Balance}
 use Rattle.kept_spec.specs.Open.{openTells, openAnswer}
 use Rattle.kept_spec.specs.Run.{Run, collect}
-use Rattle.kept_spec.specs.Account.{Balance, Standing, told, balanceAfter, Promised, Moves, Account}
+use Rattle.kept_spec.specs.Account.{Standing, told, balanceAfter, Promised, Moves, Account}
 use Rattle.kept_spec.proofs.RunLaws.{run-collect}
 use Rattle.kept_spec.proofs.StepLaws.{answer-tells}
 use Rattle.kept_spec.proofs.Demand3.{demand3}
-use Rattle.legzhuro_c.specs.Calls.{OpenReturns, stepValues, repairIn, toldBy}
+use Rattle.legzhuro_c.specs.Calls.{openValues, OpenReturns, balanceIn, stepValues, resultIn, toldBy}
 use Rattle.legzhuro_c.specs.CallRuns.{CallEvent, eventOf, stepsOf, CallPromised, CallMoves}
 use Rattle.legzhuro_c.proofs.OwnLaws.{open-own, step-own, step-short, step-short-returns}
 
@@ -35,9 +35,9 @@ module _ (e : CallEvent) (short : length (e .answer) < stepValues) (p : CallProm
       (step-short-returns (e .call) (e .answer) (e .returned) (e .kept) (e .scratch) (e .answer′) short p)
 
   balance-stays : (b : Balance) → balanceAfter (told (eventOf e)) b ≡ b
-  balance-stays b = ap (λ a. balanceAfter a b) (answer-tells (toldBy (e .returned) (repairIn (e .answer′)))) ∙ by-return (e .returned) (small .0)
+  balance-stays b = ap (λ a. balanceAfter a b) (answer-tells (toldBy (e .returned) (resultIn (e .answer′)))) ∙ by-return (e .returned) (small .0)
     where
-      by-return : (r : ℕ) → 0 < r → balanceAfter (toldBy r (repairIn (e .answer′))) b ≡ b
+      by-return : (r : ℕ) → 0 < r → balanceAfter (toldBy r (resultIn (e .answer′))) b ≡ b
       by-return zero h = absurd (omega arith)
       by-return (suc r) h = refl
 
@@ -65,9 +65,9 @@ call-run = run-collect stepsOf (λ s t e m. by-room s t e m (leb stepValues (len
 
 -- an opening from C that returned 0, and then any run of steps from C
 pub call-account :
-    (kept answer answer′ : List ℕ) (opening : ℕ) → 1 ≤ length answer → OpenReturns kept answer 0 answer′ → opening ≡ at answer′ 0
-    → (es : List CallEvent) (end : Standing) → Run CallMoves (record { kept = kept; balance = record { total = opening } }) es end
+    (kept answer answer′ : List ℕ) (opening : Balance) → openValues ≤ length answer → OpenReturns kept answer 0 answer′ → opening ≡ balanceIn answer′
+    → (es : List CallEvent) (end : Standing) → Run CallMoves (record { kept = kept; balance = opening }) es end
     → Account opening (collect stepsOf es) end
 unfolding openTells
 call-account kept answer answer′ opening h q o es end r =
-    demand3 kept (openAnswer (toldBy 0 (at answer′ 0))) opening (open-own kept answer 0 answer′ h q) (ap accepted (sym o)) (collect stepsOf es) end (call-run _ end es r)
+    demand3 kept (openAnswer (toldBy 0 (balanceIn answer′))) opening (open-own kept answer 0 answer′ h q) (ap accepted (sym o)) (collect stepsOf es) end (call-run _ end es r)

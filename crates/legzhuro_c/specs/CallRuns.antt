@@ -7,8 +7,8 @@ use lib.Dec.{leb}
 use lib.IntN.{ℤ}
 use lib.ListN.{length}
 use Rattle.kept_spec.specs.Step.{StepCall, stepAnswer}
-use Rattle.kept_spec.specs.Account.{Event, Standing, balanceOf, told, Accepts, balanceAfter}
-use Rattle.legzhuro_c.specs.Calls.{stepValues, StepReturns, repairIn, toldBy}
+use Rattle.kept_spec.specs.Account.{Event, Standing, told, Accepts, balanceAfter}
+use Rattle.legzhuro_c.specs.Calls.{stepValues, StepReturns, resultIn, toldBy}
 
 -- a call of `legzhuro_step` with what it returned and left
 pub record CallEvent : Type 0 where
@@ -24,7 +24,7 @@ abbrev pub eventOf : CallEvent → Event
 eventOf e =
     record {
       call = e .call;
-      answer = stepAnswer (toldBy (e .returned) (repairIn (e .answer′)));
+      answer = stepAnswer (toldBy (e .returned) (resultIn (e .answer′)));
       kept = e .kept;
       scratch = e .scratch;
     }
@@ -40,6 +40,6 @@ CallPromised e = StepReturns (e .call) (e .answer) (e .returned) (e .kept) (e .s
 -- moves as those of Step
 pub data CallMoves : Standing → CallEvent → Standing → Type 0 where
   lent : {s : Standing} {e : CallEvent} (before rest : List ℕ) → CallPromised e → s .kept ≡ before ++ (e .call .kept ++ rest)
-      → (Accepts (told (eventOf e)) → (e .call .kept ≡ s .kept) × (balanceOf (e .call) ≡ s .balance))
+      → (Accepts (told (eventOf e)) → (e .call .kept ≡ s .kept) × (e .call .balance ≡ s .balance))
       → CallMoves s e (record { kept = before ++ (e .kept ++ rest); balance = balanceAfter (told (eventOf e)) (s .balance) })
   elsewhere : {s : Standing} {e : CallEvent} → CallPromised e → (Accepts (told (eventOf e)) → ⊥) → CallMoves s e s

@@ -7,7 +7,7 @@ use lib.ListN.{length, getD}
 use lib.Ieee.{Float, nan}
 use Rattle.numbers.specs.declared.Checked.{Checked}
 use Rattle.numbers.specs.declared.Checked.the-variants.{Pass, Fail}
-use Rattle.numbers.specs.Lists.{at, atℤ, written, sum}
+use Rattle.numbers.specs.Lists.{at, atℤ, written}
 use Rattle.numbers.specs.Signed.{over}
 use Rattle.numbers.specs.Checks.{Answered, accepted, refused, after, first, checkCount, checkLong, Rule, rule}
 use Rattle.caas_spec.specs.Operation.{SplitCall, items, splitVerdict, splitMasses, splitDeficit}
@@ -15,8 +15,9 @@ use Rattle.qlt_spec.specs.declared.Repair.{Repair}
 use Rattle.qlt_spec.specs.Field.{cells, nodes}
 use Rattle.qlt_spec.specs.Checks.{checkNodes}
 use Rattle.qlt_spec.specs.Operation.{repair, Leaves}
-use Rattle.kept_spec.specs.Open.{openVerdict}
-use Rattle.kept_spec.specs.Step.{StepCall, newTotal, repairCall, stepVerdict}
+use Rattle.kept_spec.specs.declared.Balance.{Balance}
+use Rattle.kept_spec.specs.Open.{openVerdict, openBalance}
+use Rattle.kept_spec.specs.Step.{StepCall, newTotal, repairCall, stepVerdict, StepResult}
 use Rattle.doubles_spec.specs.declared.CellDoubles.{CellDoubles}
 use Rattle.doubles_spec.specs.declared.CellUnits.{CellUnits}
 use Rattle.doubles_spec.specs.Import.{importVerdict, importUnits}
@@ -78,13 +79,19 @@ pub record SplitReturns (c : SplitCall) (deficit : List ℤ) (r : ℕ) (masses d
   pub writes : masses ≡ after (splitCallVerdict c deficit) (splitMasses c) (c .masses)
   pub tells : deficit′ ≡ after (splitCallVerdict c deficit) (written deficit 0 (splitDeficit c ∷ [])) deficit
 
--- Open: the total goes to the first entry of the answer
+-- Open: the balance goes to the first entry of the answer
+abbrev pub openValues : ℕ
+openValues = 1
+
 unfoldable pub openCallVerdict : List ℕ → List ℕ → Checked
-openCallVerdict kept answer = first (checkLong (length answer) 1 ∷ openVerdict kept ∷ [])
+openCallVerdict kept answer = first (checkLong (length answer) openValues ∷ openVerdict kept ∷ [])
+
+abbrev pub balanceWords : Balance → List ℕ
+balanceWords b = b .total ∷ []
 
 pub record OpenReturns (kept answer : List ℕ) (r : ℕ) (answer′ : List ℕ) : Type 0 where
   pub returns : r ≡ returned (openCallVerdict kept answer)
-  pub writes : answer′ ≡ after (openCallVerdict kept answer) (written answer 0 (sum kept ∷ [])) answer
+  pub writes : answer′ ≡ after (openCallVerdict kept answer) (written answer 0 (balanceWords (openBalance kept))) answer
 
 -- Step: what it tells goes to the first entries of the answer, which counts under 3, after 1 and 2
 abbrev pub stepValues : ℕ
@@ -129,8 +136,14 @@ SingleReturns mass k = ValueReturns mass k (exportSingle mass k)
 
 -- ---- the values in the lent lists, from which the operations' own answers are read off
 
+abbrev pub balanceIn : List ℕ → Balance
+balanceIn answer = record { total = at answer 0 }
+
 abbrev pub repairIn : List ℕ → Repair
 repairIn answer = record { outcome = at answer 0; total = at answer 1; change = at answer 2; shared = at answer 3 }
+
+abbrev pub resultIn : List ℕ → StepResult
+resultIn answer = record { repair = repairIn answer; balance = record { total = at answer 1 } }
 
 abbrev pub unitsIn : List ℤ → CellUnits
 unitsIn units =

@@ -13,6 +13,7 @@ use doubles_spec::Imported;
 use doubles_spec::SingleExported;
 use files_spec::AnswerRead;
 use files_spec::FieldWritten;
+use kept_spec::Balance;
 use kept_spec::Opened;
 use kept_spec::Stepped;
 use numbers::Checked;
@@ -84,7 +85,7 @@ pub extern "C" fn legzhuro_open(kept: &[u32], answer: &mut [u64]) -> u64
         return 3;
     }
     match kept::open(kept) {
-        Opened::Total(total) => returns::put_total(total, answer),
+        Opened::Accepted(balance) => returns::put_balance(balance, answer),
         Opened::Refused { number, place } => returns::refusal(number, place),
     }
 }
@@ -107,7 +108,7 @@ pub extern "C" fn legzhuro_step(
 ) -> u64
     ensures { λ r.
         ⌜ StepReturns
-        (stepCall total (now (kept .entry)) source
+        (stepCall (record { total = total }) (now (kept .entry)) source
         (lists (now (targets .entry)) (now (lows .entry)) (now (highs .entry)) (now («safe_lows» .entry)) (now («safe_highs» .entry))
         (now (weights .entry)) (now (parents .entry)))
         (now (scratch .entry)))
@@ -118,7 +119,7 @@ pub extern "C" fn legzhuro_step(
         return returns::refusal(number, place);
     }
     let stepped = kept::step(
-        total,
+        Balance { total },
         kept,
         source,
         targets,
@@ -131,7 +132,7 @@ pub extern "C" fn legzhuro_step(
         scratch,
     );
     match stepped {
-        Stepped::Accepted(repair) => returns::put_repair(repair, answer),
+        Stepped::Accepted { repair, balance: _ } => returns::put_repair(repair, answer),
         Stepped::Refused { number, place } => returns::refusal(number, place),
     }
 }

@@ -6,10 +6,11 @@ ghost use lib.ListN.{length};
 ghost use Rattle.numbers.specs.Lists.{written};
 ghost use Rattle.numbers.specs.Checks.{first, checkCount, checkLong};
 ghost use Rattle.qlt_spec.specs.Checks.{checkNodes};
-ghost use Rattle.legzhuro_c.specs.Calls.{stepValues, repairWords, unitsList};
+ghost use Rattle.legzhuro_c.specs.Calls.{openValues, balanceWords, stepValues, repairWords, unitsList};
 ghost use Rattle.legzhuro_c.specs.FileCalls.{readValues, answerRoom, repairedWords};
 use doubles_spec::CellUnits;
 use field_checks::shape::check_nodes;
+use kept_spec::Balance;
 use numbers::Checked;
 use numbers::checks::check_count;
 use numbers::checks::check_long;
@@ -61,11 +62,11 @@ pub fn put_deficit(d: i64, deficit: &mut [i64]) -> u64
     0
 }
 
-pub fn put_total(total: u32, answer: &mut [u64]) -> u64
-    requires { ⌜ 1 ≤ length (now answer) ⌝ }
-    ensures { λ r. ⌜ (r ≡ 0) × (now (answer .exit) ≡ written (now (answer .entry)) 0 (total ∷ [])) ⌝ }
+pub fn put_balance(balance: Balance, answer: &mut [u64]) -> u64
+    requires { ⌜ openValues ≤ length (now answer) ⌝ }
+    ensures { λ r. ⌜ (r ≡ 0) × (now (answer .exit) ≡ written (now (answer .entry)) 0 (balanceWords balance)) ⌝ }
 {
-    answer[0] = total as u64;
+    answer[0] = balance.total as u64;
     0
 }
 

@@ -21,7 +21,7 @@ use Rattle.qlt_spec.specs.Tree.{Valid}
 use Rattle.qlt_spec.specs.Field.{Lists, cells, nodes, scratchPerNode, field}
 use Rattle.qlt_spec.specs.Masses.{treeMasses}
 use Rattle.qlt_spec.specs.Checks.{shapeOf, checkValues, checkReach}
-use Rattle.qlt_spec.specs.Operation.{ReconstructCall, reconstructVerdict, shapeRules, valueRules, reconstructRules, ShapeFits, ValuesFit, ReconstructFits, repair, reconstructTells, reconstructAnswer, cleared, RepairContract, ReconstructContract}
+use Rattle.qlt_spec.specs.Operation.{ReconstructCall, reconstructVerdict, shapeRules, valueRules, reconstructRules, ShapeFits, ValuesFit, ReconstructFits, repair, reconstructTells, reconstructAnswer, cleared, Leaves, RepairTells, ReconstructContract}
 use Rattle.qlt_spec.specs.Facts.{sharedBy, FieldFacts}
 use Rattle.qlt_spec.proofs.FactLaws.{facts}
 use Rattle.qlt_spec.proofs.CheckLaws.{shape-decides, shape-fits, values-decides, values-fit, reaches-decides, reaches, valid}
@@ -92,14 +92,14 @@ fits-facts c f =
 
 -- ---- from the contract alone, by any verdict: Reconstruct's and Step's alike
 
-module _ {v : Checked} {c : ReconstructCall} {masses : List ℕ} {scratch : List ℤ} where
-  -- a call that told a repair passed; its answer, its masses and its scratch are what the definitions say
-  module _ {r : Repair} (p : RepairContract v c (accepted r) masses scratch) where
+module _ {X : Type 0} {v : Checked} {c : ReconstructCall} {x : X} {masses : List ℕ} {scratch : List ℤ} where
+  -- a call that told a result passed; its answer, its masses and its scratch are what the definitions say
+  module _ {r : X} (p : RepairTells v c x (accepted r) masses scratch) where
     pub told-passed : v ≡ Pass
-    told-passed = answered-accepted v r (repair (c .lists) (c .total)) (p .answers) .0
+    told-passed = answered-accepted v r x (p .answers) .0
 
-    pub told-repair : r ≡ repair (c .lists) (c .total)
-    told-repair = answered-accepted v r (repair (c .lists) (c .total)) (p .answers) .1
+    pub told-result : r ≡ x
+    told-result = answered-accepted v r x (p .answers) .1
 
     pub told-masses : masses ≡ treeMasses (field (c .lists)) (c .total)
     told-masses = p .leaves .writes ∙ ap (λ w. after w (treeMasses (field (c .lists)) (c .total)) (c .masses)) told-passed
@@ -108,9 +108,9 @@ module _ {v : Checked} {c : ReconstructCall} {masses : List ℕ} {scratch : List
     told-scratch = p .leaves .clears ∙ ap (λ w. after w (cleared (scratchPerNode * nodes (c .lists)) (c .scratch)) (c .scratch)) told-passed
 
   -- one that told a refusal was refused so, and left both lists as they were
-  module _ {number place : ℕ} (p : RepairContract v c (refused number place) masses scratch) where
+  module _ {number place : ℕ} (p : RepairTells v c x (refused number place) masses scratch) where
     pub told-failed : v ≡ Fail number place
-    told-failed = answered-refused v (repair (c .lists) (c .total)) number place (p .answers)
+    told-failed = answered-refused v x number place (p .answers)
 
     pub told-kept : (masses ≡ c .masses) × (scratch ≡ c .scratch)
     told-kept = (
@@ -119,13 +119,18 @@ module _ {v : Checked} {c : ReconstructCall} {masses : List ℕ} {scratch : List
     )
 
 -- and the contract by the verdict: of a call that is refused, and of one that is accepted
-pub contract-refused : {v : Checked} (c : ReconstructCall) {number place : ℕ} → v ≡ Fail number place → RepairContract v c (refused number place) (c .masses) (c .scratch)
-contract-refused c e = record { answers = ap (λ w. answered w (repair (c .lists) (c .total))) (sym e); leaves = record { writes = after-fail _ _ e; clears = after-fail _ _ e } }
+pub leaves-refused : {v : Checked} (c : ReconstructCall) {number place : ℕ} → v ≡ Fail number place → Leaves v c (c .masses) (c .scratch)
+leaves-refused c e = record { writes = after-fail _ _ e; clears = after-fail _ _ e }
+
+pub contract-refused :
+    {X : Type 0} {v : Checked} (c : ReconstructCall) (x : X) {number place : ℕ} → v ≡ Fail number place
+    → RepairTells v c x (refused number place) (c .masses) (c .scratch)
+contract-refused c x e = record { answers = ap (λ w. answered w x) (sym e); leaves = leaves-refused c e }
 
 pub contract-done :
-    {v : Checked} (c : ReconstructCall) {told : Answered Repair} {masses : List ℕ} {scratch : List ℤ} → v ≡ Pass → RepairContract Pass c told masses scratch
-    → RepairContract v c told masses scratch
-contract-done c {told} {masses} {scratch} e p = subst (λ w. RepairContract w c told masses scratch) (sym e) p
+    {X : Type 0} {v : Checked} (c : ReconstructCall) (x : X) {told : Answered X} {masses : List ℕ} {scratch : List ℤ} → v ≡ Pass
+    → RepairTells Pass c x told masses scratch → RepairTells v c x told masses scratch
+contract-done c x {told} {masses} {scratch} e p = subst (λ w. RepairTells w c x told masses scratch) (sym e) p
 
 -- every fact of the whole tree of a call that was answered Done
 pub done-facts : {c : ReconstructCall} (r : Repair) {masses : List ℕ} {scratch : List ℤ} → ReconstructContract c (Done r) masses scratch → FieldFacts (field (c .lists)) (c .total) masses

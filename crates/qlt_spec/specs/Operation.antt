@@ -120,10 +120,14 @@ pub record Leaves (v : Checked) (c : ReconstructCall) (masses : List ℕ) (scrat
   pub writes : masses ≡ after v (treeMasses (field (c .lists)) (c .total)) (c .masses)
   pub clears : scratch ≡ after v (cleared (scratchPerNode * nodes (c .lists)) (c .scratch)) (c .scratch)
 
--- and what it tells
-pub record RepairContract (v : Checked) (c : ReconstructCall) (told : Answered Repair) (masses : List ℕ) (scratch : List ℤ) : Type 0 where
-  pub answers : told ≡ answered v (repair (c .lists) (c .total))
+-- and what it tells, of an operation that gives x where it is accepted
+pub record RepairTells {X : Type 0} (v : Checked) (c : ReconstructCall) (x : X) (told : Answered X) (masses : List ℕ) (scratch : List ℤ) : Type 0 where
+  pub answers : told ≡ answered v x
   pub leaves : Leaves v c masses scratch
+
+-- the contract of a repair
+abbrev pub RepairContract : Checked → ReconstructCall → Answered Repair → List ℕ → List ℤ → Type 0
+RepairContract v c told masses scratch = RepairTells v c (repair (c .lists) (c .total)) told masses scratch
 
 -- the whole contract of the operation
 abbrev pub ReconstructContract : ReconstructCall → Reconstructed → List ℕ → List ℤ → Type 0

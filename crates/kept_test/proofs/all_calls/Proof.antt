@@ -6,10 +6,10 @@ use Rattle.kept_test.proofs.all_calls.Statement.{statement}
 use Rattle.kept_test.proofs.all_calls.Tie as tie
 
 abbrev Inv-loop : tie.InvT-loop
-Inv-loop total kept₀ now₀ i₀ kept now i = Unit
+Inv-loop kept₀ now₀ i₀ kept now i = Unit
 
 abbrev μ-loop : tie.MeasureT-loop
-μ-loop total kept₀ now₀ i₀ kept now i = 24 - i
+μ-loop kept₀ now₀ i₀ kept now i = 24 - i
 
 loop-holds : tie.Need-loop-holds Inv-loop μ-loop
 loop-holds c = tt

@@ -11,11 +11,11 @@ returns c = let a = c .before .before .before .args in open-no-room (a .kept .no
 open-requires : tie.Need-open-requires
 open-requires c κs = search needs
 
-enum-known-total : tie.Need-enum-known-total
-enum-known-total c = search needs
+enum-known-balance : tie.Need-enum-known-balance
+enum-known-balance c = search needs
 
-put-total-requires : tie.Need-put-total-requires
-put-total-requires c κs = omega (arith, c .before .before .before .before .before .if1 .left)
+put-balance-requires : tie.Need-put-balance-requires
+put-balance-requires c κs = omega (arith, c .before .before .before .before .before .if1 .left)
 
 enum-known-number : tie.Need-enum-known-number
 enum-known-number c = search needs
@@ -29,8 +29,8 @@ same-length c = search needs
 returns-2 : tie.Need-returns-2
 returns-2 c =
     let a = c .before .before .before .before .before .before .before .before .before .before .before .args in
-    let put = c .before .before .put-total .ensures in
-    open-done (a .kept .now) (a .answer .now) (c .before .before .before .before .before .before .before .«open» .ensures) (omega (arith, c .before .before .before .before .before .before .before .before .if1 .left)) (c .before .before .before .before .before .total .given .1) (put .0) (put .1)
+    let put = c .before .before .put-balance .ensures in
+    open-done (a .kept .now) (a .answer .now) (c .before .before .before .before .before .before .before .«open» .ensures) (omega (arith, c .before .before .before .before .before .before .before .before .if1 .left)) (c .before .before .before .before .before .balance .given .1) (put .0) (put .1)
 
 returns-3 : tie.Need-returns-3
 returns-3 c =
@@ -43,8 +43,8 @@ legzhuro-open-spec =
     (tie.spec
     returns
     open-requires
-    enum-known-total
-    put-total-requires
+    enum-known-balance
+    put-balance-requires
     enum-known-number
     refusal-requires
     same-length

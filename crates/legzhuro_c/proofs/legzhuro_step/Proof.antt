@@ -12,7 +12,7 @@ use Rattle.legzhuro_c.proofs.legzhuro_step.Statement.{statement}
 use Rattle.legzhuro_c.proofs.legzhuro_step.Tie as tie
 
 abbrev givenAt : tie.Start → ℤ → StepCall
-givenAt c source = stepCall (c .args .total) (c .args .kept .now) source (lists (c .args .targets .now) (c .args .lows .now) (c .args .highs .now) (c .args .safe-lows .now) (c .args .safe-highs .now) (c .args .weights .now) (c .args .parents .now)) (c .args .scratch .now)
+givenAt c source = stepCall (record { total = c .args .total }) (c .args .kept .now) source (lists (c .args .targets .now) (c .args .lows .now) (c .args .highs .now) (c .args .safe-lows .now) (c .args .safe-highs .now) (c .args .weights .now) (c .args .parents .now)) (c .args .scratch .now)
 
 abbrev given : tie.Start → StepCall
 given c = givenAt c (c .args .source)

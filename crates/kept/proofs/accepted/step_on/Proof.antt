@@ -14,7 +14,7 @@ use Rattle.kept.proofs.accepted.step_on.Statement.{statement}
 use Rattle.kept.proofs.accepted.step_on.Tie as tie
 
 abbrev givenAt : tie.Start → ℤ → StepCall
-givenAt c source = stepCall (c .args .total) (c .args .kept .now) source (lists (c .args .targets .now) (c .args .lows .now) (c .args .highs .now) (c .args .safe-lows .now) (c .args .safe-highs .now) (c .args .weights .now) (c .args .parents .now)) (c .args .scratch .now)
+givenAt c source = stepCall (c .args .balance) (c .args .kept .now) source (lists (c .args .targets .now) (c .args .lows .now) (c .args .highs .now) (c .args .safe-lows .now) (c .args .safe-highs .now) (c .args .weights .now) (c .args .parents .now)) (c .args .scratch .now)
 
 abbrev given : tie.Start → StepCall
 given c = givenAt c (c .args .source)
@@ -23,8 +23,8 @@ given c = givenAt c (c .args .source)
 source-is : (c : tie.Start) → toZ w32 (ofZ w32 (c .args .source)) ≡ c .args .source
 source-is c = toZ-ofZ w32 (c .args .source) (c .fits .source)
 
-next-is : (c : tie.After-add-source) → toZ w64 (ofZ w64 (c .add-source .result)) ≡ pos (c .before .before .before .before .before .before .before .before .args .total) +ℤ c .before .before .before .before .before .before .before .before .args .source
-next-is c = let s = c .before .before .before .before .before .before .before .before in next-read (s .args .total) (s .args .source) _ (omega arith) (s .fits .source) (c .add-source .ensures)
+next-is : (c : tie.After-add-source) → toZ w64 (ofZ w64 (c .add-source .result)) ≡ pos (c .before .before .before .before .before .before .before .before .args .balance .total) +ℤ c .before .before .before .before .before .before .before .before .args .source
+next-is c = let s = c .before .before .before .before .before .before .before .before in next-read (s .args .balance .total) (s .args .source) _ (omega arith) (s .fits .source) (c .add-source .ensures)
 
 total-is : (c : tie.After-whole) → c .whole .result ≡ newTotal (given (c .before .before .before .before .before .before .before .before .before))
 total-is c = c .whole .ensures ∙ ap over (next-is (c .before))

@@ -23,7 +23,7 @@ use Rattle.kept.proofs.verdict.step_verdict.Tie as tie
 abbrev given : tie.Start → StepCall
 given c =
     let a = c .args in
-    stepCall (a .total) (a .kept .now) (a .source)
+    stepCall (a .balance) (a .kept .now) (a .source)
     (lists (a .targets .now) (a .lows .now) (a .highs .now) (a .safe-lows .now) (a .safe-highs .now) (a .weights .now) (a .parents .now)) (a .scratch .now)
 
 abbrev Shaped : StepCall → Type 0
@@ -39,12 +39,12 @@ lengths c = shape-fits (given (c .before .before .before .before .before .before
 valued : (c : tie.After-enum-told2) → checkValues (given (c .before .before .before .before .before .before .before .before .before .before .before .before .before) .lists) ≡ Pass
 valued c = sym (c .before .before .check-values .ensures) ∙ c .enum-told2 .given .1
 
-adds : (c : tie.After-enum-told3) → checkKept (c .before .before .before .before .before .before .before .before .before .before .before .before .before .before .before .before .args .kept .now) (c .before .before .before .before .before .before .before .before .before .before .before .before .before .before .before .before .args .total) ≡ Pass
+adds : (c : tie.After-enum-told3) → checkKept (c .before .before .before .before .before .before .before .before .before .before .before .before .before .before .before .before .args .kept .now) (c .before .before .before .before .before .before .before .before .before .before .before .before .before .before .before .before .args .balance .total) ≡ Pass
 adds c = sym (c .before .before .check-kept .ensures) ∙ c .enum-told3 .given .1
 
 -- the new total, as it is handed on
 next-is : (c : tie.After-add-source) → toZ w64 (ofZ w64 (c .add-source .result)) ≡ next (given (c .before .before .before .before .before .before .before .before .before .before .before .before .before .before .before .before .before))
-next-is c = let s = c .before .before .before .before .before .before .before .before .before .before .before .before .before .before .before .before .before in next-read (s .args .total) (s .args .source) _ (omega arith) (s .fits .source) (c .add-source .ensures)
+next-is c = let s = c .before .before .before .before .before .before .before .before .before .before .before .before .before .before .before .before .before in next-read (s .args .balance .total) (s .args .source) _ (omega arith) (s .fits .source) (c .add-source .ensures)
 
 small-is : (c : tie.After-check-total) → c .check-total .result ≡ checkTotal (next (given (c .before .before .before .before .before .before .before .before .before .before .before .before .before .before .before .before .before .before)))
 small-is c = c .check-total .ensures ∙ ap checkTotal (next-is (c .before))

@@ -2,8 +2,7 @@
 use mathlib.Core.Path.{sym, _∙_, ap}
 use native.Mathlib.Omega.{arith}
 use Rattle.numbers.specs.Checks.{accepted, answered}
-use Rattle.numbers.specs.Lists.{sum}
-use Rattle.kept_spec.specs.Open.{openTells, OpenFits}
+use Rattle.kept_spec.specs.Open.{OpenFits, openBalance, openTells}
 use Rattle.kept_spec.proofs.OpenLaws.{open-accepts}
 use borrow.Author.Needs.{needs}
 use Rattle.kept.proofs.work.open_by.Statement.{statement}
@@ -17,7 +16,7 @@ enum-known-verdict c = search needs
 
 returns : tie.Need-returns
 unfolding openTells
-returns c = record { answers = ap (λ v. answered v (sum (c .before .before .before .before .args .kept .now))) (sym (c .before .verdict .given .1) ∙ c .before .before .before .before .pre) }
+returns c = record { answers = ap (λ v. answered v (openBalance (c .before .before .before .before .args .kept .now))) (sym (c .before .verdict .given .1) ∙ c .before .before .before .before .pre) }
 
 enum-told : tie.Need-enum-told
 enum-told c = search needs
@@ -30,7 +29,7 @@ narrow-requires c κs = omega (arith, fits (c .before) .small, c .sum-of .ensure
 
 returns-2 : tie.Need-returns-2
 unfolding openTells
-returns-2 c = record { answers = ap accepted (c .narrow .ensures ∙ c .before .sum-of .ensures .0) ∙ ap (λ v. answered v (sum (c .before .before .before .before .before .args .kept .now))) (sym (c .before .before .enum-told .given .1) ∙ c .before .before .before .before .before .pre) }
+returns-2 c = record { answers = ap (λ n. accepted (record { total = n })) (c .narrow .ensures ∙ c .before .sum-of .ensures .0) ∙ ap (λ v. answered v (openBalance (c .before .before .before .before .before .args .kept .now))) (sym (c .before .before .enum-told .given .1) ∙ c .before .before .before .before .before .pre) }
 
 pub open-by-spec : {M : Type 1} → statement M
 open-by-spec =

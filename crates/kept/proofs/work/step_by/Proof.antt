@@ -8,15 +8,16 @@ use Rattle.numbers.specs.declared.Checked.the-variants.{Pass}
 use Rattle.numbers.specs.Checks.{accepted}
 use Rattle.qlt_spec.specs.Field.{lists}
 use Rattle.qlt_spec.specs.Operation.{RepairContract}
-use Rattle.kept_spec.specs.Step.{StepCall, stepCall, repairCall, StepFits, stepTells}
+use Rattle.kept_spec.specs.Step.{StepCall, stepCall, repairCall, StepFits, stepResult, stepTells}
 use Rattle.kept_spec.proofs.StepLaws.{step-accepts}
-use Rattle.qlt_spec.proofs.OperationLaws.{contract-done, contract-refused}
+use Rattle.qlt_spec.proofs.OperationLaws.{contract-refused}
+use Rattle.kept.proofs.TotalLaws.{step-done}
 use borrow.Author.Needs.{needs}
 use Rattle.kept.proofs.work.step_by.Statement.{statement}
 use Rattle.kept.proofs.work.step_by.Tie as tie
 
 abbrev givenAt : tie.Start → ℤ → StepCall
-givenAt c source = stepCall (c .args .total) (c .args .kept .now) source (lists (c .args .targets .now) (c .args .lows .now) (c .args .highs .now) (c .args .safe-lows .now) (c .args .safe-highs .now) (c .args .weights .now) (c .args .parents .now)) (c .args .scratch .now)
+givenAt c source = stepCall (c .args .balance) (c .args .kept .now) source (lists (c .args .targets .now) (c .args .lows .now) (c .args .highs .now) (c .args .safe-lows .now) (c .args .safe-highs .now) (c .args .weights .now) (c .args .parents .now)) (c .args .scratch .now)
 
 abbrev given : tie.Start → StepCall
 given c = givenAt c (c .args .source)
@@ -30,7 +31,8 @@ enum-known-verdict c = search needs
 
 returns : tie.Need-returns
 unfolding stepTells
-returns c = contract-refused (repairCall (given (c .before .before .before .before .before .before .before .before .before .before))) (sym (c .before .before .before .before .before .before .before .before .before .before .pre) ∙ c .before .verdict .given .1)
+returns c = let s = c .before .before .before .before .before .before .before .before .before .before in
+    contract-refused (repairCall (given s)) (stepResult (given s)) (sym (s .pre) ∙ c .before .verdict .given .1)
 
 enum-told : tie.Need-enum-told
 enum-told c = search needs
@@ -46,9 +48,8 @@ same-length-2 : tie.Need-same-length-2
 same-length-2 c = search needs
 
 returns-2 : tie.Need-returns-2
-unfolding stepTells
 returns-2 c = let s = c .before .before .before .before .before .before .before .before .before .before .before .before .before .before .before in
-    contract-done (repairCall (given s)) (sym (s .pre) ∙ c .before .before .before .before .before .before .enum-told .given .1)
+    step-done (given s) (sym (s .pre) ∙ c .before .before .before .before .before .before .enum-told .given .1)
     (subst (λ (z : ℤ). RepairContract Pass (repairCall (givenAt s z)) (accepted (c .before .before .before .step-on .result)) (c .before .before .before .step-on .last .1 .0) (c .before .before .before .step-on .last .1 .1 .1 .1 .1 .1 .1 .1 .1 .1 .0)) (source-is s) (c .before .before .before .step-on .ensures))
 
 pub step-by-spec : {M : Type 1} → statement M

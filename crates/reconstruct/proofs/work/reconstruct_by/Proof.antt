@@ -2,7 +2,7 @@
 use mathlib.Core.Path.{_≡_, sym, _∙_}
 use Rattle.numbers.specs.declared.Checked.the-variants.{Pass}
 use Rattle.qlt_spec.specs.Field.{lists}
-use Rattle.qlt_spec.specs.Operation.{ReconstructCall, reconstructCall, reconstructVerdict, reconstructTells}
+use Rattle.qlt_spec.specs.Operation.{ReconstructCall, reconstructCall, reconstructVerdict, repair, reconstructTells}
 use Rattle.qlt_spec.proofs.OperationLaws.{reconstruct-accepts, contract-refused, contract-done}
 use borrow.Author.Needs.{needs}
 use Rattle.reconstruct.proofs.work.reconstruct_by.Statement.{statement}
@@ -22,7 +22,8 @@ enum-known-verdict c = search needs
 
 returns : tie.Need-returns
 unfolding reconstructTells
-returns c = let s = c .before .before .before .before .before .before .before .before .before .before in contract-refused (given s) (sym (s .pre) ∙ c .before .verdict .given .1)
+returns c = let s = c .before .before .before .before .before .before .before .before .before .before in
+    contract-refused (given s) (repair (given s .lists) (given s .total)) (sym (s .pre) ∙ c .before .verdict .given .1)
 
 enum-told : tie.Need-enum-told
 enum-told c = search needs
@@ -40,7 +41,7 @@ returns-2 : tie.Need-returns-2
 unfolding reconstructTells
 returns-2 c =
     let s = c .before .before .before .before .before .before .before .before .before .before .before .before .before .before .before in
-    contract-done (given s) (passed (c .before .before .before .before .before .before)) (c .before .before .before .repaired .ensures)
+    contract-done (given s) (repair (given s .lists) (given s .total)) (passed (c .before .before .before .before .before .before)) (c .before .before .before .repaired .ensures)
 
 pub reconstruct-by-spec : {M : Type 1} → statement M
 reconstruct-by-spec =

@@ -1,0 +1,22 @@
+-- `legzhuro_c::returns::put_balance` meets its contract: one store is a written part.
+use mathlib.Core.Path.{refl}
+use Rattle.numbers.proofs.PartLaws.{sets-written}
+use Rattle.legzhuro_c.specs.Calls.{balanceWords}
+use borrow.Author.Needs.{needs}
+use Rattle.legzhuro_c.proofs.returns.put_balance.Statement.{statement}
+use Rattle.legzhuro_c.proofs.returns.put_balance.Tie as tie
+
+cast-answer : tie.Need-cast-answer
+cast-answer c = search needs
+
+slice-write-answer : tie.Need-slice-write-answer
+slice-write-answer c = search needs
+
+same-length : tie.Need-same-length
+same-length c = search needs
+
+returns : tie.Need-returns
+returns c = let s = c .before in (refl, sets-written (balanceWords (s .args .balance)) (s .args .answer .now) 0 (s .pre))
+
+pub put-balance-spec : {M : Type 1} → statement M
+put-balance-spec = tie.close (tie.spec cast-answer slice-write-answer same-length returns)
