@@ -74,24 +74,25 @@ module legzhuro
             integer(c_int64_t) :: returned
         end function legzhuro_split
 
-        ! Opens a kept field: answer(1) is the total.
-        function legzhuro_open(kept, kept_len, answer, answer_len) result(returned) bind(c, name='legzhuro_open')
+        ! Opens a kept field: answer(1) is the total, answer(2) the scale.
+        function legzhuro_open(kept, kept_len, scale, answer, answer_len) result(returned) bind(c, name='legzhuro_open')
             import :: c_int32_t, c_int64_t, c_size_t
             integer(c_size_t), value :: kept_len, answer_len
+            integer(c_int32_t), value :: scale
             integer(c_int32_t), intent(in) :: kept(kept_len)
             integer(c_int64_t), intent(inout) :: answer(answer_len)
             integer(c_int64_t) :: returned
         end function legzhuro_open
 
         ! Steps a kept field: answer(1) is the outcome, answer(2) the new total, answer(3) the change, answer(4) the sum shared
-        ! out.
-        function legzhuro_step(total, kept, kept_len, source, targets, targets_len, lows, lows_len, highs, highs_len, safe_lows, &
-                               safe_lows_len, safe_highs, safe_highs_len, weights, weights_len, parents, parents_len, scratch, &
-                               scratch_len, answer, answer_len) result(returned) bind(c, name='legzhuro_step')
+        ! out. The new total is at total_scale, which scale must be.
+        function legzhuro_step(total, total_scale, kept, kept_len, source, scale, targets, targets_len, lows, lows_len, highs, &
+                               highs_len, safe_lows, safe_lows_len, safe_highs, safe_highs_len, weights, weights_len, parents, &
+                               parents_len, scratch, scratch_len, answer, answer_len) result(returned) bind(c, name='legzhuro_step')
             import :: c_int32_t, c_int64_t, c_size_t
             integer(c_size_t), value :: kept_len, targets_len, lows_len, highs_len, safe_lows_len, safe_highs_len, weights_len
             integer(c_size_t), value :: parents_len, scratch_len, answer_len
-            integer(c_int32_t), value :: total, source
+            integer(c_int32_t), value :: total, total_scale, source, scale
             integer(c_int32_t), intent(inout) :: kept(kept_len)
             integer(c_int32_t), intent(in) :: targets(targets_len), lows(lows_len), highs(highs_len), safe_lows(safe_lows_len)
             integer(c_int32_t), intent(in) :: safe_highs(safe_highs_len), weights(weights_len), parents(parents_len)

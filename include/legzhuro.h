@@ -29,6 +29,7 @@
  *   14  a file of length 0, no multiple of 512, or not that of its cells and nodes; a field file over 18432 bytes or an answer file over 3072
  *   15  a block of the file with a wrong number or check word (place: the block, from 1)
  *   16  a file whose first payload word is not 512, or a spare word that is not 0; an answer file with an outcome above 2 (place: the block)
+ *   17  a step whose scale is above 30 or not that of the balance
  */
 #ifndef LEGZHURO_H
 #define LEGZHURO_H
@@ -96,29 +97,31 @@ uint64_t legzhuro_split(const int64_t *targets, size_t targets_len, const int64_
                         size_t highs_len, const int64_t *weights, size_t weights_len, int64_t total, int64_t *masses, size_t masses_len,
                         int64_t *deficit, size_t deficit_len);
 
-/* Opens a kept field: kept[c] is the mass of cell c, of 1 to 512 cells. answer[0] is their sum, the total that the first step is given; later
- * entries of `answer` are left alone.
- * Refusals: 3 (`answer` has no entry), 1, 13. */
-uint64_t legzhuro_open(const uint32_t *kept, size_t kept_len, uint64_t *answer, size_t answer_len);
+/* Opens a kept field: kept[c] is the mass of cell c, of 1 to 512 cells, in units of 2^-scale, for a scale of 0 to 30. answer[0] is the sum of
+ * the masses and answer[1] the scale: the field's balance, `total` and `total_scale` of the first step; later entries of `answer` are left
+ * alone. No step changes the scale.
+ * Refusals: 3 (`answer` has fewer than two entries), 1, 9, 13. */
+uint64_t legzhuro_open(const uint32_t *kept, size_t kept_len, uint32_t scale, uint64_t *answer, size_t answer_len);
 
-/* Steps a kept field. `total` is the total that legzhuro_open or the last accepted step gave, `kept` the masses as the last call left them,
- * `source` what enters (or, below 0, leaves) in this step: the new total is `total` plus `source`. The other lists are the new field: cell c
- * would like targets[c] (transport may undershoot 0), should lie between lows[c] and highs[c], must lie between safe_lows[c] and
- * safe_highs[c], and shares by weights[c]; parents[v] is the parent of node v, where nodes 0 to cells - 1 are the cells and the last node,
- * its own parent, is the root. The number of cells is the length of `targets`, that of nodes the length of `parents`; `kept` and the other
- * five lists must have one entry for each cell, `scratch` six or more for each node.
+/* Steps a kept field. `total` and `total_scale` are its balance: as legzhuro_open gave it, then the answer[1] of the last accepted step with
+ * the same scale. `kept` are the masses as the last call left them, `source` is what enters (or, below 0, leaves) in this step: the new total
+ * is `total` plus `source`. `scale` is the scale of this step's source and field, and must be `total_scale`: unlike units are not added. The
+ * other lists are the new field: cell c would like targets[c] (transport may undershoot 0), should lie between lows[c] and highs[c], must lie
+ * between safe_lows[c] and safe_highs[c], and shares by weights[c]; parents[v] is the parent of node v, where nodes 0 to cells - 1 are the
+ * cells and the last node, its own parent, is the root. The number of cells is the length of `targets`, that of nodes the length of `parents`;
+ * `kept` and the other five lists must have one entry for each cell, `scratch` six or more for each node.
  * After an accepted step `kept` holds the new masses; the first six entries of `scratch` for each node are 0, later ones are left alone;
  * answer[0] is the outcome (0: within the bounds, 1: between safe low and low, 2: between high and safe high), answer[1] the new total,
  * answer[2] the change, the sum over cells of the absolute mass minus target, answer[3] the sum shared out, that over inner nodes of the size
  * of what is missing or too much when the node's mass is split among its children (deficit[0] of legzhuro_split), 0 for a field of one node;
  * later entries of `answer` are left alone.
- * Refusals: 1, 2, 3 (also `answer` with fewer than four entries), 4 (place: the smallest node that breaks a rule), 5 (place: the first
+ * Refusals: 1, 2, 3 (also `answer` with fewer than four entries), 17, 4 (place: the smallest node that breaks a rule), 5 (place: the first
  * cell), 6, 7, 12, 13, 8. */
-uint64_t legzhuro_step(uint32_t total, uint32_t *kept, size_t kept_len, int32_t source, const int32_t *targets, size_t targets_len,
-                       const uint32_t *lows, size_t lows_len, const uint32_t *highs, size_t highs_len, const uint32_t *safe_lows,
-                       size_t safe_lows_len, const uint32_t *safe_highs, size_t safe_highs_len, const uint32_t *weights,
-                       size_t weights_len, const uint32_t *parents, size_t parents_len, int64_t *scratch, size_t scratch_len,
-                       uint64_t *answer, size_t answer_len);
+uint64_t legzhuro_step(uint32_t total, uint32_t total_scale, uint32_t *kept, size_t kept_len, int32_t source, uint32_t scale,
+                       const int32_t *targets, size_t targets_len, const uint32_t *lows, size_t lows_len, const uint32_t *highs,
+                       size_t highs_len, const uint32_t *safe_lows, size_t safe_lows_len, const uint32_t *safe_highs,
+                       size_t safe_highs_len, const uint32_t *weights, size_t weights_len, const uint32_t *parents, size_t parents_len,
+                       int64_t *scratch, size_t scratch_len, uint64_t *answer, size_t answer_len);
 
 /* Turns a cell's doubles into whole units of 2^-scale, for a scale of 0 to 30: each times 2^scale exactly, then the target to nearest with
  * ties to even, the lows up, the highs down. Minus zero is 0. units[0] to units[4] are target (-2147483648 to 2147483647), low, high, safe

@@ -1,5 +1,6 @@
 //! The calls from C of the proved library, as `legzhuro.h` declares them, and safe wrappers: a slice goes as its pointer and its length.
 
+use crate::operations::Balance;
 use crate::tree::Lists;
 
 #[link(name = "legzhuro_c", kind = "static")]
@@ -20,12 +21,14 @@ extern "C" {
         deficit: *mut i64,
         deficit_len: usize,
     ) -> u64;
-    fn legzhuro_open(kept: *const u32, kept_len: usize, answer: *mut u64, answer_len: usize) -> u64;
+    fn legzhuro_open(kept: *const u32, kept_len: usize, scale: u32, answer: *mut u64, answer_len: usize) -> u64;
     fn legzhuro_step(
         total: u32,
+        total_scale: u32,
         kept: *mut u32,
         kept_len: usize,
         source: i32,
+        scale: u32,
         targets: *const i32,
         targets_len: usize,
         lows: *const u32,
@@ -115,17 +118,19 @@ pub fn split(targets: &[i64], lows: &[i64], highs: &[i64], weights: &[i64], tota
     }
 }
 
-pub fn open(kept: &[u32], answer: &mut [u64]) -> u64 {
-    unsafe { legzhuro_open(kept.as_ptr(), kept.len(), answer.as_mut_ptr(), answer.len()) }
+pub fn open(kept: &[u32], scale: u32, answer: &mut [u64]) -> u64 {
+    unsafe { legzhuro_open(kept.as_ptr(), kept.len(), scale, answer.as_mut_ptr(), answer.len()) }
 }
 
-pub fn step(total: u32, kept: &mut [u32], source: i32, lists: &Lists, scratch: &mut [i64], answer: &mut [u64]) -> u64 {
+pub fn step(balance: Balance, kept: &mut [u32], source: i32, scale: u32, lists: &Lists, scratch: &mut [i64], answer: &mut [u64]) -> u64 {
     unsafe {
         legzhuro_step(
-            total,
+            balance.total,
+            balance.scale,
             kept.as_mut_ptr(),
             kept.len(),
             source,
+            scale,
             lists.targets.as_ptr(),
             lists.targets.len(),
             lists.lows.as_ptr(),

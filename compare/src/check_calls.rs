@@ -2,9 +2,9 @@
 //! every lent list at exit, entry by entry.
 
 use crate::calls;
-use crate::doubles::{self, MAX_SCALE};
+use crate::doubles;
 use crate::from_c::{self, returned};
-use crate::operations::{Refusal, LIMIT};
+use crate::operations::{Balance, Refusal, LIMIT, MAX_SCALE};
 use crate::random::{self, Random};
 use crate::shared::shared_by_masses;
 use crate::tally::Tally;
@@ -39,6 +39,25 @@ fn stretch<T: Copy>(random: &mut Random, list: &mut Vec<T>, filler: T) {
         _ => random.index(2 * list.len() + 2),
     };
     list.resize(length, filler);
+}
+
+/// A scale in range.
+pub fn sound_scale(random: &mut Random) -> u32 {
+    random.below(u64::from(MAX_SCALE) + 1) as u32
+}
+
+/// A scale that is out of range; now and then one that only looks right in 8 or 16 bits.
+fn wrong_scale(random: &mut Random) -> u32 {
+    let any = random.between(i64::from(MAX_SCALE) + 1, i64::from(u32::MAX)) as u32;
+    random.pick(&[31, 31, 32, 33, 40, 63, 64, 256 + 8, 65536 + 8, 1 << 31, u32::MAX, any])
+}
+
+fn make_scale(random: &mut Random) -> u32 {
+    match random.below(10) {
+        0 => wrong_scale(random),
+        1 | 2 => random.pick(&[0, MAX_SCALE]),
+        _ => sound_scale(random),
+    }
 }
 
 /// Any bits: what a lent list holds before the call.
@@ -189,16 +208,16 @@ fn make_kept(random: &mut Random) -> Vec<u32> {
 
 pub fn opens(tally: &mut Tally, random: &mut Random, count: u64) {
     for _ in 0..count {
-        let kept = make_kept(random);
-        let length = random.pick(&[0, 1, 1, 2, 5]);
+        let (kept, scale) = (make_kept(random), make_scale(random));
+        let length = random.pick(&[0, 1, 2, 2, 2, 2, 3, 4, 5]);
         let mut mine = any_bits(random, length, |bits| bits);
         let mut theirs = mine.clone();
-        let result = from_c::open(&kept, &mut mine);
-        let got = calls::open(&kept, &mut theirs);
+        let result = from_c::open(&kept, scale, &mut mine);
+        let got = calls::open(&kept, scale, &mut theirs);
         tally.answer(&result);
         let expected = returned(result);
         tally.input((expected, &mine) == (got, &theirs), || {
-            format!("open {kept:?}: second implementation {expected:#x} {mine:?}, library {got:#x} {theirs:?}")
+            format!("open {kept:?} scale {scale}: second implementation {expected:#x} {mine:?}, library {got:#x} {theirs:?}")
         });
     }
 }
@@ -207,9 +226,10 @@ pub fn opens(tally: &mut Tally, random: &mut Random, count: u64) {
 
 #[derive(Clone, Debug)]
 pub struct StepCall {
-    pub total: u32,
+    pub balance: Balance,
     pub kept: Vec<u32>,
     pub source: i32,
+    pub scale: u32,
     pub field: Field,
     pub scratch: Vec<i64>,
     pub answer: Vec<u64>,
@@ -233,10 +253,11 @@ impl StepExit {
 /// Runs both sides; returns the exits of the second implementation and of the library.
 pub fn compare_step(tally: &mut Tally, workspace: &mut Workspace, call: &StepCall) -> (StepExit, StepExit) {
     let (mut mine, mut theirs) = (StepExit::entry(call), StepExit::entry(call));
+    let &StepCall { balance, source, scale, .. } = call;
     let lists = call.field.lists();
-    let result = from_c::step(workspace, call.total, &mut mine.kept, call.source, &lists, &mut mine.scratch, &mut mine.answer);
+    let result = from_c::step(workspace, balance, &mut mine.kept, source, scale, &lists, &mut mine.scratch, &mut mine.answer);
     mine.returned = returned(result);
-    theirs.returned = calls::step(call.total, &mut theirs.kept, call.source, &lists, &mut theirs.scratch, &mut theirs.answer);
+    theirs.returned = calls::step(balance, &mut theirs.kept, source, scale, &lists, &mut theirs.scratch, &mut theirs.answer);
     tally.outcome(&result.map(|()| mine.answer[0] as u32));
     tally.input(mine == theirs, || format!("step {call:?}: second implementation {mine:?}, library {theirs:?}"));
     if (mine.returned, theirs.returned) == (0, 0) {
@@ -248,7 +269,7 @@ pub fn compare_step(tally: &mut Tally, workspace: &mut Workspace, call: &StepCal
     (mine, theirs)
 }
 
-/// A step of the field to the total wanted, from any kept masses and source that lead to it.
+/// A step of the field to the total wanted, from any kept masses and source that lead to it, at any scale in range.
 pub fn make_step(random: &mut Random, field: Field, wanted: u32) -> StepCall {
     let source = match random.below(4) {
         0 => 0,
@@ -257,12 +278,14 @@ pub fn make_step(random: &mut Random, field: Field, wanted: u32) -> StepCall {
         _ => random.bits() as i32,
     };
     let total = (i64::from(wanted) - i64::from(source)).clamp(0, i64::from(u32::MAX)) as u32;
+    let scale = sound_scale(random);
     let spare = random.pick(&[0, 0, 1, 7]);
     let longer = random.pick(&[0, 0, 1, 4]);
     StepCall {
-        total,
+        balance: Balance { total, scale },
         kept: random::partition(random, total, field.targets.len()),
         source: (i64::from(wanted) - i64::from(total)) as i32,
+        scale,
         scratch: any_bits(random, 6 * field.parents.len() + spare, |bits| bits as i64),
         answer: any_bits(random, 4 + longer, |bits| bits),
         field,
@@ -294,9 +317,25 @@ fn break_kept(random: &mut Random, kept: &mut [u32]) {
     }
 }
 
+/// Gives the step another scale to name, the record another scale, or both the same one. With both the same and in range Step is right to
+/// accept.
+fn break_scale(random: &mut Random, call: &mut StepCall) {
+    let wrong = wrong_scale(random);
+    let other = (call.scale % (MAX_SCALE + 1) + random.between(1, i64::from(MAX_SCALE)) as u32) % (MAX_SCALE + 1);
+    // Out of range, and alike in the lower bits.
+    let longer = call.balance.scale | 1 << random.between(5, 31);
+    match random.below(5) {
+        0 => call.scale = random.pick(&[wrong, longer]),
+        1 => call.scale = other,
+        2 => call.balance.scale = random.pick(&[wrong, longer, other, other]),
+        3 => (call.balance.scale, call.scale) = (wrong, wrong),
+        _ => (call.balance.scale, call.scale) = (other, other),
+    }
+}
+
 pub fn break_step(random: &mut Random, call: &mut StepCall) {
     let value = random::odd_number(random, call.field.targets.len(), call.field.parents.len());
-    match random.below(18) {
+    match random.below(20) {
         0..=4 => random::break_field(random, &mut call.field),
         5 => stretch(random, &mut call.field.targets, -1),
         6 => stretch(random, &mut call.field.lows, value),
@@ -315,8 +354,9 @@ pub fn break_step(random: &mut Random, call: &mut StepCall) {
             _ => call.answer.truncate(random.index(4)),
         },
         14 => break_kept(random, &mut call.kept),
-        15 => call.total = call.total.wrapping_add(random.pick(&[1, 2, u32::MAX, 1 << 31])),
+        15 => call.balance.total = call.balance.total.wrapping_add(random.pick(&[1, 2, u32::MAX, 1 << 31])),
         16 => call.source = random.pick(&[i32::MIN, i32::MAX, value as i32]),
+        17 | 18 => break_scale(random, call),
         _ => resize_cells(call, wrong_count(random)),
     }
 }
@@ -359,15 +399,6 @@ fn make_double(random: &mut Random, scale: u32) -> f64 {
         14 => f64::from_bits(random.bits()),
         // Any mantissa with a size around the range.
         _ => f64::from_bits(random.bits() & 0x800f_ffff_ffff_ffff | (random.between(985, 1060) as u64) << 52) * down,
-    }
-}
-
-fn make_scale(random: &mut Random) -> u32 {
-    match random.below(20) {
-        0 => random.pick(&[31, 32, 33, 40, 63, 64, 1 << 31, u32::MAX]),
-        1 => random.below(41) as u32,
-        2..=5 => random.pick(&[0, 30]),
-        _ => random.below(31) as u32,
     }
 }
 
@@ -446,7 +477,7 @@ pub fn classes(tally: &mut Tally, random: &mut Random, count: u64) {
         let any = random.below(0x800);
         let exponent = random.pick(&[0, 0, 0, 1, 2, 0x7fe, 0x7ff, any]);
         let double = f64::from_bits(random.below(2) << 63 | exponent << 52 | fraction >> random.below(53));
-        import_class(tally, double, random.index(5), random.below(u64::from(MAX_SCALE) + 1) as u32);
+        import_class(tally, double, random.index(5), sound_scale(random));
     }
 }
 

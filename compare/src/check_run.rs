@@ -1,9 +1,9 @@
-//! Years of half-hour steps of one kept field, refused calls among them. After every call the account is checked: the kept masses add up
-//! to the opening total and the sources of the accepted steps, and that is the total returned.
+//! Years of half-hour steps of one kept field, refused calls among them. After every accepted step the account is checked: the kept masses
+//! add up to the opening total and the sources of the accepted steps, that is the total returned, and the step was at the opening's scale.
 
 use crate::calls;
-use crate::check_calls::{break_step, compare_step, StepCall};
-use crate::operations::LIMIT;
+use crate::check_calls::{break_step, compare_step, sound_scale, StepCall};
+use crate::operations::{Balance, LIMIT};
 use crate::random::{self, Random};
 use crate::tally::Tally;
 use crate::tree::{sum, Field, Workspace};
@@ -54,14 +54,15 @@ fn next_total(random: &mut Random, total: u32) -> u32 {
 }
 
 /// A call on the kept field that all checks let pass.
-fn good_call(random: &mut Random, kept: &[u32], total: u32) -> StepCall {
-    let wanted = next_total(random, total);
+fn good_call(random: &mut Random, kept: &[u32], balance: Balance) -> StepCall {
+    let wanted = next_total(random, balance.total);
     let outcome = random.below(3);
     let field = next_field(random, kept, wanted, outcome);
     StepCall {
-        total,
+        balance,
         kept: kept.to_vec(),
-        source: (i64::from(wanted) - i64::from(total)) as i32,
+        source: (i64::from(wanted) - i64::from(balance.total)) as i32,
+        scale: balance.scale,
         scratch: vec![-1; 6 * field.parents.len() + random.index(3)],
         answer: vec![u64::MAX; 4],
         field,
@@ -71,28 +72,30 @@ fn good_call(random: &mut Random, kept: &[u32], total: u32) -> StepCall {
 /// Gives the call a source that takes the total just out of reach of the field.
 fn miss_total(random: &mut Random, call: &mut StepCall) {
     let beyond = [sum(&call.field.safe_lows) as i64 - 1, sum(&call.field.safe_highs) as i64 + 1];
-    call.source = (random.pick(&beyond) - i64::from(call.total)).clamp(i64::from(i32::MIN), i64::from(i32::MAX)) as i32;
+    call.source = (random.pick(&beyond) - i64::from(call.balance.total)).clamp(i64::from(i32::MIN), i64::from(i32::MAX)) as i32;
 }
 
 /// Makes steps until `steps` have been accepted.
 pub fn run(tally: &mut Tally, random: &mut Random, cells: usize, steps: u64) {
-    let mut kept = random::partition(random, 1_000_000, cells);
-    let mut opened = [0];
-    if calls::open(&kept, &mut opened) != 0 || opened[0] != sum(&kept) {
-        tally.difference(format!("open {kept:?}: {}", opened[0]));
+    let (mut kept, scale) = (random::partition(random, 1_000_000, cells), sound_scale(random));
+    let mut answer = [0; 2];
+    let returned = calls::open(&kept, scale, &mut answer);
+    if returned != 0 || answer != [sum(&kept), u64::from(scale)] {
+        tally.difference(format!("open {kept:?} scale {scale}: {returned:#x} {answer:?}"));
     }
+    let opened = Balance { total: answer[0] as u32, scale: answer[1] as u32 };
     let mut workspace = Workspace::default();
-    let (mut total, mut sources, mut accepted) = (opened[0] as u32, 0, 0);
+    let (mut balance, mut sources, mut accepted) = (opened, 0, 0);
     while accepted < steps {
-        let mut call = good_call(random, &kept, total);
+        let mut call = good_call(random, &kept, balance);
         let broken = random.chance(25);
         if broken && random.chance(10) {
             miss_total(random, &mut call);
         } else if broken {
             break_step(random, &mut call);
         }
-        // A call that was broken in its total or its kept masses and is accepted nevertheless is none of this run.
-        let belongs = call.total == total && call.kept == kept;
+        // A call that was broken in its record or its kept masses and is accepted nevertheless is none of this run.
+        let belongs = call.balance == balance && call.kept == kept;
         let (mine, theirs) = compare_step(tally, &mut workspace, &call);
         if theirs.returned != 0 {
             if !broken || theirs.kept != call.kept {
@@ -101,12 +104,15 @@ pub fn run(tally: &mut Tally, random: &mut Random, cells: usize, steps: u64) {
         } else if belongs && mine == theirs {
             accepted += 1;
             sources += i64::from(call.source);
-            let account = opened[0] as i64 + sources;
+            let account = i64::from(opened.total) + sources;
             let kept_sum = sum(&theirs.kept) as i64;
             if kept_sum != account || theirs.answer[1] as i64 != account {
                 tally.difference(format!("account after {call:?}: {account}, library {theirs:?}"));
             }
-            (kept, total) = (theirs.kept, theirs.answer[1] as u32);
+            if (call.balance.scale, call.scale) != (opened.scale, opened.scale) {
+                tally.difference(format!("accepted {call:?}: opened at scale {}", opened.scale));
+            }
+            (kept, balance.total) = (theirs.kept, theirs.answer[1] as u32);
         }
     }
 }

@@ -2,9 +2,7 @@
 //! whole mantissa and exponent; rounding to units is done on whole numbers, never with doubles. Written from the papers alone; shares no
 //! code with the library.
 
-use crate::operations::{refuse, Refusal, LIMIT};
-
-pub const MAX_SCALE: u32 = 30;
+use crate::operations::{check_scale, refuse, Refusal, LIMIT};
 
 /// How a field is rounded.
 #[derive(Clone, Copy, PartialEq)]
@@ -85,9 +83,7 @@ pub struct ImportRefusal {
 
 /// Returns the units, field by field.
 pub fn import(doubles: [f64; 5], scale: u32) -> Result<[i64; 5], ImportRefusal> {
-    if scale > MAX_SCALE {
-        return Err(ImportRefusal { refusal: Refusal { number: 9, place: 0 }, double: None });
-    }
+    check_scale(scale).map_err(|refusal| ImportRefusal { refusal, double: None })?;
     let mut units = [0; 5];
     for (field, &double) in doubles.iter().enumerate() {
         let refused = |number| ImportRefusal { refusal: Refusal { number, place: field as u32 }, double: Some(double) };
@@ -114,9 +110,7 @@ fn put_together(mass: u32, scale: u32) -> f64 {
 }
 
 fn check_export(mass: u32, scale: u32) -> Result<(), Refusal> {
-    if scale > MAX_SCALE {
-        return refuse(9);
-    }
+    check_scale(scale)?;
     if u64::from(mass) > LIMIT {
         return refuse(11);
     }

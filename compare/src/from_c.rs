@@ -2,7 +2,7 @@
 //! and number and place come back in one value. Shares no code with the library.
 
 use crate::files::{check_answer_header, AnswerHeader};
-use crate::operations::{check_cells, check_counts, refuse, Refusal};
+use crate::operations::{check_cells, check_counts, refuse, Balance, Refusal};
 use crate::tree::{Lists, Workspace};
 use crate::{doubles, files, operations};
 
@@ -38,26 +38,30 @@ pub fn split(
     Ok(())
 }
 
-pub fn open(kept: &[u32], answer: &mut [u64]) -> Result<(), Refusal> {
-    check_length(answer, 1)?;
-    answer[0] = u64::from(operations::open(kept)?);
+pub fn open(kept: &[u32], scale: u32, answer: &mut [u64]) -> Result<(), Refusal> {
+    check_length(answer, 2)?;
+    let balance = operations::open(kept, scale)?;
+    answer[..2].copy_from_slice(&[u64::from(balance.total), u64::from(balance.scale)]);
     Ok(())
 }
 
-/// The answer's length is checked with the other lengths, after 1 and 2.
+/// The answer's length is checked with the other lengths, after 1 and 2. Of the new record it has the total alone: the scale is the one
+/// given.
+#[allow(clippy::too_many_arguments)] // those of the call, and the workspace
 pub fn step(
     workspace: &mut Workspace,
-    total: u32,
+    balance: Balance,
     kept: &mut [u32],
     source: i32,
+    scale: u32,
     lists: &Lists,
     scratch: &mut [i64],
     answer: &mut [u64],
 ) -> Result<(), Refusal> {
     check_counts(lists.targets.len(), lists.parents.len())?;
     check_length(answer, 4)?;
-    let repair = operations::step(workspace, total, kept, source, lists, scratch)?;
-    answer[..4].copy_from_slice(&[u64::from(repair.outcome), u64::from(repair.total), repair.change, repair.shared]);
+    let (repair, new) = operations::step(workspace, balance, kept, source, scale, lists, scratch)?;
+    answer[..4].copy_from_slice(&[u64::from(repair.outcome), u64::from(new.total), repair.change, repair.shared]);
     Ok(())
 }
 

@@ -10,11 +10,11 @@ use std::path::Path;
 
 const SEED: u64 = 20190525;
 
-// The refusals that a call can give, after the section "Operations and what each turns down" of 01 and tickets 1, 2, 5 and 6 of 02, in its
-// order of checks. From C a list that is too short for what a call gives counts under 3.
+// The refusals that a call can give, after the section "Operations and what each turns down" of 01 and tickets 1, 2 and 5 to 7 of 02, in
+// its order of checks. From C a list that is too short for what a call gives counts under 3.
 const SPLIT: [usize; 6] = [1, 3, 5, 6, 7, 8];
-const OPEN: [usize; 3] = [3, 1, 13];
-const STEP: [usize; 10] = [1, 2, 3, 4, 5, 6, 7, 12, 13, 8];
+const OPEN: [usize; 4] = [3, 1, 9, 13];
+const STEP: [usize; 11] = [1, 2, 3, 17, 4, 5, 6, 7, 12, 13, 8];
 const IMPORT: [usize; 4] = [3, 9, 10, 11];
 // In binary32 too.
 const EXPORT: [usize; 3] = [3, 9, 11];

@@ -1,5 +1,5 @@
-//! Split, Reconstruct, Open and Step with all that they turn down, after the section "Operations and what each turns down" of 01 and ticket
-//! 2 of 02. Checks stand in 01's order. Written from the papers alone; shares no code with the library.
+//! Split, Reconstruct, Open and Step with all that they turn down, after the section "Operations and what each turns down" of 01 and
+//! tickets 2 and 7 of 02. Checks stand in the papers' order. Written from the papers alone; shares no code with the library.
 
 use crate::split::{share_out, Item};
 use crate::tree::{broken_node, repair, sum, Lists, Repair, Workspace};
@@ -7,6 +7,7 @@ use crate::tree::{broken_node, repair, sum, Lists, Repair, Workspace};
 pub const MAX_CELLS: usize = 512;
 pub const MAX_NODES: usize = 1024;
 pub const LIMIT: u64 = 2147483647;
+pub const MAX_SCALE: u32 = 30;
 
 /// A refusal: its number and its place.
 #[derive(Clone, Copy, Debug, PartialEq)]
@@ -61,6 +62,14 @@ pub fn split(targets: &[i64], lows: &[i64], highs: &[i64], weights: &[i64], tota
 pub fn check_cells(cells: usize) -> Result<(), Refusal> {
     if cells == 0 || cells > MAX_CELLS {
         return refuse(1);
+    }
+    Ok(())
+}
+
+/// Check 9.
+pub fn check_scale(scale: u32) -> Result<(), Refusal> {
+    if scale > MAX_SCALE {
+        return refuse(9);
     }
     Ok(())
 }
@@ -131,36 +140,54 @@ pub fn reconstruct(
     Ok(repair)
 }
 
-/// Returns the total.
-pub fn open(kept: &[u32]) -> Result<u32, Refusal> {
+/// The record of a kept field.
+#[derive(Clone, Copy, Debug, PartialEq)]
+pub struct Balance {
+    pub total: u32,
+    pub scale: u32,
+}
+
+pub fn open(kept: &[u32], scale: u32) -> Result<Balance, Refusal> {
     check_cells(kept.len())?;
+    check_scale(scale)?;
     let total = sum(kept);
     if total > LIMIT {
         return refuse(13);
     }
-    Ok(total as u32)
+    Ok(Balance { total: total as u32, scale })
 }
 
+/// Check 17: `scale` is the one that the step names.
+fn check_step_scale(balance: Balance, scale: u32) -> Result<(), Refusal> {
+    if scale > MAX_SCALE || scale != balance.scale {
+        return refuse(17);
+    }
+    Ok(())
+}
+
+/// Returns the repair and the new record.
 pub fn step(
     workspace: &mut Workspace,
-    total: u32,
+    balance: Balance,
     kept: &mut [u32],
     source: i32,
+    scale: u32,
     lists: &Lists,
     scratch: &mut [i64],
-) -> Result<Repair, Refusal> {
+) -> Result<(Repair, Balance), Refusal> {
     check_counts(lists.targets.len(), lists.parents.len())?;
     check_lengths(lists, kept.len(), scratch.len())?;
+    check_step_scale(balance, scale)?;
     check_field(workspace, lists)?;
-    if sum(kept) != u64::from(total) {
+    if sum(kept) != u64::from(balance.total) {
         return refuse(12);
     }
-    let new_total = i64::from(total) + i64::from(source);
+    let new_total = i64::from(balance.total) + i64::from(source);
     if new_total < 0 || new_total > LIMIT as i64 {
         return refuse(13);
     }
     check_total(lists, new_total as u32)?;
     let repair = repair(workspace, lists, new_total as u32, kept);
     scratch[..6 * lists.parents.len()].fill(0);
-    Ok(repair)
+    Ok((repair, Balance { total: new_total as u32, scale: balance.scale }))
 }

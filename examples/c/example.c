@@ -1,4 +1,4 @@
-/* Opens a kept field, steps it three times (the second step is refused), imports a cell's doubles, exports a mass as a double and one as a
+/* Opens a kept field, steps it four times (the second step is refused for its total, the third for its scale), imports a cell's doubles, exports a mass as a double and one as a
  * binary32, writes the field as a file and repairs that file, and repairs the file named. Usage: example FIELD_FILE. The status is 0 if both
  * were repaired, else 1. */
 #include <inttypes.h>
@@ -28,24 +28,25 @@ static void print_masses(const uint32_t *masses, size_t cells) {
     printf("\n");
 }
 
-static int open_field(const uint32_t *kept, uint64_t *total) {
+/* The balance of a kept field: balance[0] is its total, balance[1] its scale. */
+static int open_field(const uint32_t *kept, uint32_t scale, uint64_t *balance) {
     printf("open:");
-    uint64_t returned = legzhuro_open(kept, CELLS, total, 1);
+    uint64_t returned = legzhuro_open(kept, CELLS, scale, balance, 2);
     if (returned != 0) return refused(returned);
-    printf(" total %" PRIu64 "\n", *total);
+    printf(" total %" PRIu64 " scale %" PRIu64 "\n", balance[0], balance[1]);
     return 0;
 }
 
-static int step(uint64_t *total, uint32_t *kept, int32_t source) {
+static int step(uint64_t *balance, uint32_t *kept, int32_t source, uint32_t scale) {
     static int64_t scratch[LEGZHURO_SCRATCH * NODES];
     uint64_t answer[4];
 
-    printf("step %" PRId32 ":", source);
+    printf("step %" PRId32 " at scale %" PRIu32 ":", source, scale);
     uint64_t returned =
-        legzhuro_step((uint32_t)*total, kept, CELLS, source, targets, CELLS, lows, CELLS, highs, CELLS, safe_lows, CELLS, safe_highs, CELLS,
-                      weights, CELLS, parents, NODES, scratch, LEGZHURO_SCRATCH * NODES, answer, 4);
+        legzhuro_step((uint32_t)balance[0], (uint32_t)balance[1], kept, CELLS, source, scale, targets, CELLS, lows, CELLS, highs, CELLS,
+                      safe_lows, CELLS, safe_highs, CELLS, weights, CELLS, parents, NODES, scratch, LEGZHURO_SCRATCH * NODES, answer, 4);
     if (returned != 0) return refused(returned);
-    *total = answer[1];
+    balance[0] = answer[1];
     printf(" outcome %" PRIu64 " total %" PRIu64 " change %" PRIu64 " shared %" PRIu64, answer[0], answer[1], answer[2], answer[3]);
     print_masses(kept, CELLS);
     return 0;
@@ -107,17 +108,18 @@ static int repair_read(FILE *in) {
 
 int main(int argc, char **argv) {
     uint32_t kept[CELLS] = {1, 2, 3, 4};
-    uint64_t total;
+    uint64_t balance[2];
 
     FILE *in = argc == 2 ? fopen(argv[1], "rb") : NULL;
     if (in == NULL) {
         fprintf(stderr, "usage: example FIELD_FILE, a file that can be read\n");
         return 1;
     }
-    if (open_field(kept, &total) != 0) return 1;
-    step(&total, kept, 6);
-    step(&total, kept, 100);
-    step(&total, kept, -9);
+    if (open_field(kept, 1, balance) != 0) return 1;
+    step(balance, kept, 6, 1);
+    step(balance, kept, 100, 1);
+    step(balance, kept, -9, 2);
+    step(balance, kept, -9, 1);
     if (convert() != 0 || repair_written(16) != 0) return 1;
     int status = repair_read(in);
     fclose(in);

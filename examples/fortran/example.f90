@@ -1,5 +1,5 @@
-! Opens a kept field, steps it twice (the second step is refused), exports the masses as doubles and as binary32
-! values, writes the field as a file and repairs that file, and repairs the file named.
+! Opens a kept field, steps it four times (the second step is refused for its total, the third for its scale), exports the
+! masses as doubles and as binary32 values, writes the field as a file and repairs that file, and repairs the file named.
 ! Usage: example FIELD_FILE. To build it, after rt staticlib legzhuro_c:
 ! gfortran -Jtarget include/legzhuro.f90 examples/fortran/example.f90 target/staticlib/liblegzhuro_c.a -o target/example_fortran
 program example
@@ -11,35 +11,39 @@ program example
     integer(c_int32_t), parameter :: targets(cells) = [-2, 9, 4, 5], lows(cells) = 0, highs(cells) = 8
     integer(c_int32_t), parameter :: safe_lows(cells) = 0, safe_highs(cells) = 10, weights(cells) = 0
     integer(c_int32_t), parameter :: parents(nodes) = [4, 4, 5, 5, 6, 6, 6]
-    integer(c_int32_t) :: kept(cells) = [1, 2, 3, 4], total
+    integer(c_int32_t) :: kept(cells) = [1, 2, 3, 4], total, total_scale
     integer(c_int64_t) :: answer(5), returned
 
-    returned = legzhuro_open(kept, cells, answer, size(answer, kind=c_size_t))
+    returned = legzhuro_open(kept, cells, 1, answer, size(answer, kind=c_size_t))
     if (returned /= 0) error stop 'the kept field was refused'
     total = int(answer(1), c_int32_t)
-    print '(a, i0)', 'open: total ', total
-    call step(6)
-    call step(100)
-    call export_masses(1)
+    total_scale = int(answer(2), c_int32_t)
+    print '(2(a, i0))', 'open: total ', total, ' scale ', total_scale
+    call step(6, 1)
+    call step(100, 1)
+    call step(-9, 2)
+    call step(-9, 1)
+    call export_masses(total_scale)
     call repair_written(16)
     call repair_read()
 
 contains
 
-    subroutine step(source)
-        integer(c_int32_t), intent(in) :: source
+    subroutine step(source, scale)
+        integer(c_int32_t), intent(in) :: source, scale
         integer(c_int64_t) :: scratch(legzhuro_scratch*nodes)
 
-        returned = legzhuro_step(total, kept, cells, source, targets, cells, lows, cells, highs, cells, safe_lows, cells, &
-                                 safe_highs, cells, weights, cells, parents, nodes, scratch, size(scratch, kind=c_size_t), &
-                                 answer, size(answer, kind=c_size_t))
+        returned = legzhuro_step(total, total_scale, kept, cells, source, scale, targets, cells, lows, cells, highs, cells, &
+                                 safe_lows, cells, safe_highs, cells, weights, cells, parents, nodes, scratch, &
+                                 size(scratch, kind=c_size_t), answer, size(answer, kind=c_size_t))
         if (returned /= 0) then
-            print '(a, i0, 2(a, i0))', 'step ', source, ': refused ', legzhuro_number(returned), ' ', legzhuro_place(returned)
+            print '(a, i0, 3(a, i0))', 'step ', source, ' at scale ', scale, ': refused ', legzhuro_number(returned), ' ', &
+                legzhuro_place(returned)
             return
         end if
         total = int(answer(2), c_int32_t)
-        print '(a, i0, 4(a, i0), a, *(1x, i0))', 'step ', source, ': outcome ', answer(1), ' total ', answer(2), ' change ', &
-            answer(3), ' shared ', answer(4), ' masses', kept
+        print '(a, i0, 5(a, i0), a, *(1x, i0))', 'step ', source, ' at scale ', scale, ': outcome ', answer(1), ' total ', &
+            answer(2), ' change ', answer(3), ' shared ', answer(4), ' masses', kept
     end subroutine step
 
     subroutine export_masses(scale)

@@ -5,6 +5,7 @@
 use compare::calls;
 use compare::files::{answer_file_length, field_file, reconstruct_file, FileWorkspace};
 use compare::from_c::step;
+use compare::operations::Balance;
 use compare::random::{binary, chain, flat, partition, Random};
 use compare::tree::{sum, Field, Workspace};
 use std::hint::black_box;
@@ -69,13 +70,20 @@ fn print_line(call: &str, shape: &str, field: &Field, (library, second): (f64, f
 
 /// Steps with source 0: each one leads to the total again, so they are all accepted.
 fn measure_step(random: &mut Random, field: &Field, total: u32) -> (f64, f64) {
+    let balance = Balance { total, scale: 0 };
     let mut kept = partition(random, total, field.targets.len());
     let (mut kept_too, lists, mut workspace) = (kept.clone(), field.lists(), Workspace::default());
     let (mut scratch, mut answer) = (vec![0; 6 * field.parents.len()], [0; 4]);
     let (mut scratch_too, mut answer_too) = (scratch.clone(), answer);
-    let mut library = || assert!(calls::step(total, black_box(&mut kept), 0, black_box(&lists), &mut scratch, &mut answer) == 0);
-    let mut second =
-        || assert!(step(&mut workspace, total, black_box(&mut kept_too), 0, black_box(&lists), &mut scratch_too, &mut answer_too).is_ok());
+    let mut library = || {
+        let returned = calls::step(balance, black_box(&mut kept), 0, balance.scale, black_box(&lists), &mut scratch, &mut answer);
+        assert!(returned == 0);
+    };
+    let mut second = || {
+        let kept = black_box(&mut kept_too);
+        let result = step(&mut workspace, balance, kept, 0, balance.scale, black_box(&lists), &mut scratch_too, &mut answer_too);
+        assert!(result.is_ok());
+    };
     measure(&mut library, &mut second)
 }
 

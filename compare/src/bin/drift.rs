@@ -3,7 +3,7 @@
 //! and each step's targets are the masses that the last one left. So nothing but the rounding of shares prefers one cell to another.
 
 use compare::calls;
-use compare::operations::LIMIT;
+use compare::operations::{Balance, LIMIT};
 use compare::random::{binary, flat, Random};
 use compare::tree::Field;
 
@@ -24,7 +24,7 @@ fn moment(masses: &[u32]) -> f64 {
 fn drift(parents: &[u32], cells: usize, weight: u32, (least, most): (i64, i64)) -> (f64, f64) {
     let high = LIMIT as u32 / cells as u32;
     let mut kept = vec![high / 2; cells];
-    let mut total = high / 2 * cells as u32;
+    let mut balance = Balance { total: high / 2 * cells as u32, scale: 0 };
     let mut field = Field::filled(cells, 0, 0);
     field.parents = parents.to_vec();
     (field.highs, field.safe_highs, field.weights) = (vec![high; cells], vec![high; cells], vec![weight; cells]);
@@ -33,9 +33,9 @@ fn drift(parents: &[u32], cells: usize, weight: u32, (least, most): (i64, i64)) 
     for _ in 0..STEPS {
         field.targets = kept.iter().map(|&mass| mass as i32).collect();
         let source = random.between(least, most) as i32;
-        let returned = calls::step(total, &mut kept, source, &field.lists(), &mut scratch, &mut answer);
+        let returned = calls::step(balance, &mut kept, source, balance.scale, &field.lists(), &mut scratch, &mut answer);
         assert_eq!(returned, 0, "a step was refused");
-        total = answer[1] as u32;
+        balance.total = answer[1] as u32;
         largest = largest.max(moment(&kept).abs());
     }
     (moment(&kept), largest)

@@ -1,2 +1,3 @@
 -- Laws for the operations' own functions.
+pub mod VerdictLaws
 pub mod TotalLaws

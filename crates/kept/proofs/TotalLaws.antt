@@ -15,7 +15,7 @@ use Rattle.qlt_spec.specs.declared.Repair.{Repair}
 use Rattle.qlt_spec.specs.Operation.{reconstructCall, ReconstructFits, repair, RepairContract}
 use Rattle.qlt_spec.proofs.OperationLaws.{told-result, contract-done}
 use Rattle.kept_spec.specs.declared.Stepped.the-variants.{Accepted}
-use Rattle.kept_spec.specs.Step.{StepCall, next, newTotal, repairCall, stepVerdict, StepFits, stepResult, stepTells, StepContract}
+use Rattle.kept_spec.specs.Step.{StepCall, stepCall, next, newTotal, repairCall, stepVerdict, StepFits, stepResult, stepTells, StepContract}
 use Rattle.kept_spec.proofs.StepLaws.{fits-repair}
 
 pub next-fits : (t : ℕ) (z : ℤ) → t < 2 ^ 32 → SFits w32 z → SFits w64 (pos t +ℤ z)
@@ -32,6 +32,10 @@ next-read t z r h f e =
 pub fits-total : (c : StepCall) → StepFits c → (pos 0 ≤ℤ next c) × (next c ≤ℤ pos maxTotal)
 fits-total c f = subst (λ z. (pos 0 ≤ℤ z) × (z ≤ℤ pos maxTotal)) (f .whole) (parts-le (omega arith), parts-le (omega (arith, f .small)))
 
+-- it names the balance's scale
+pub fits-scale : (c : StepCall) → StepFits c → StepFits (stepCall (c .balance) (c .kept) (c .source) (c .balance .scale) (c .lists) (c .scratch))
+fits-scale c f = subst (λ k. StepFits (stepCall (c .balance) (c .kept) (c .source) k (c .lists) (c .scratch))) (f .same-scale) f
+
 -- its field can be repaired for it, and what that repair leaves is what the step leaves
 pub fits-call : (c : StepCall) (M : ℕ) → M ≡ newTotal c → StepFits c → ReconstructFits (reconstructCall (c .lists) M (c .kept) (c .scratch))
 fits-call c M e f = subst (λ x. ReconstructFits (reconstructCall (c .lists) x (c .kept) (c .scratch))) (sym e) (fits-repair c f)
@@ -41,11 +45,11 @@ pub repaired-step :
     → RepairContract Pass (reconstructCall (c .lists) M (c .kept) (c .scratch)) told kept scratch → RepairContract Pass (repairCall c) told kept scratch
 repaired-step c M e {told} {kept} {scratch} p = subst (λ x. RepairContract Pass (reconstructCall (c .lists) x (c .kept) (c .scratch)) told kept scratch) e p
 
--- and its answer is the repair with the balance of that total
+-- and its answer is the repair with the balance of that total, at the scale of the one given
 pub step-done :
     (c : StepCall) {r : Repair} {kept : List ℕ} {scratch : List ℤ} → stepVerdict c ≡ Pass → RepairContract Pass (repairCall c) (accepted r) kept scratch
-    → StepContract c (Accepted r (record { total = r .total })) kept scratch
+    → StepContract c (Accepted r (record { total = r .total; scale = c .balance .scale })) kept scratch
 unfolding stepTells repair
 step-done c e p =
     contract-done (repairCall c) (stepResult c) e
-    (record { answers = ap (λ q. accepted (record { repair = q; balance = record { total = q .total } })) (told-result p); leaves = p .leaves })
+    (record { answers = ap (λ q. accepted (record { repair = q; balance = record { total = q .total; scale = c .balance .scale } })) (told-result p); leaves = p .leaves })

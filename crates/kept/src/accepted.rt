@@ -10,7 +10,7 @@ use kept_spec::Balance;
 use qlt_spec::Repair;
 use reconstruct::repair::repaired;
 
-// An accepted step: the masses of its field for the new total replace the kept ones.
+// An accepted step, which names the balance's scale: the masses of its field for the new total replace the kept ones.
 pub fn step_on(
     balance: Balance,
     kept: &mut [u32],
@@ -25,12 +25,12 @@ pub fn step_on(
     scratch: &mut [i64],
 ) -> Repair
     requires { ⌜ StepFits
-        (stepCall balance (now kept) source
+        (stepCall balance (now kept) source (balance .scale)
         (lists (now targets) (now lows) (now highs) (now «safe_lows») (now «safe_highs») (now weights) (now parents)) (now scratch)) ⌝ }
     ensures { λ r.
         ⌜ RepairContract Pass
         (repairCall
-        (stepCall balance (now (kept .entry)) source
+        (stepCall balance (now (kept .entry)) source (balance .scale)
         (lists (now (targets .entry)) (now (lows .entry)) (now (highs .entry)) (now («safe_lows» .entry)) (now («safe_highs» .entry))
         (now (weights .entry)) (now (parents .entry)))
         (now (scratch .entry))))

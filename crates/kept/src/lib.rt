@@ -1,4 +1,4 @@
-// The operations Open and Step on a kept field. Public: `open`, `step`; for the crates above `totals` (12, 13 and the new total) and
+// The operations Open and Step on a kept field. Public: `open`, `step`; for the crates above `totals` (12, 13, 17 and the new total) and
 // `accepted` (what an accepted step does). What holds of every run of these calls is proved in `kept_spec` (demand 3). Relies on
 // `reconstruct`, `kept_spec`, `field_checks`, `qlt_spec` and `numbers`.
 ghost use Rattle.kept_spec.specs.Open.{OpenContract};
@@ -13,20 +13,21 @@ pub mod totals;
 mod verdict;
 mod work;
 
-// Adds up n kept masses and returns their balance.
-pub fn open(kept: &[u32]) -> Opened
-    ensures { λ r. ⌜ OpenContract (now (kept .entry)) r ⌝ }
+// Adds up n kept masses and returns their balance at the scale given.
+pub fn open(kept: &[u32], scale: u32) -> Opened
+    ensures { λ r. ⌜ OpenContract (now (kept .entry)) scale r ⌝ }
 {
-    let verdict = verdict::open_verdict(kept);
-    work::open_by(verdict, kept)
+    let verdict = verdict::open_verdict(kept, scale);
+    work::open_by(verdict, kept, scale)
 }
 
-// Steps a kept field: M is the balance's total plus the source; the masses of the new field for M replace the kept ones. A refused call
-// writes nothing.
+// Steps a kept field: M is the balance's total plus the source; the masses of the new field for M replace the kept ones, and the new balance
+// is M at the same scale, which the step must name. A refused call writes nothing.
 pub fn step(
     balance: Balance,
     kept: &mut [u32],
     source: i32,
+    scale: u32,
     targets: &[i32],
     lows: &[u32],
     highs: &[u32],
@@ -38,7 +39,7 @@ pub fn step(
 ) -> Stepped
     ensures { λ r.
         ⌜ StepContract
-        (stepCall balance (now (kept .entry)) source
+        (stepCall balance (now (kept .entry)) source scale
         (lists (now (targets .entry)) (now (lows .entry)) (now (highs .entry)) (now («safe_lows» .entry)) (now («safe_highs» .entry))
         (now (weights .entry)) (now (parents .entry)))
         (now (scratch .entry)))
@@ -48,6 +49,7 @@ pub fn step(
         balance,
         kept,
         source,
+        scale,
         targets,
         lows,
         highs,
@@ -62,6 +64,7 @@ pub fn step(
         balance,
         kept,
         source,
+        scale,
         targets,
         lows,
         highs,

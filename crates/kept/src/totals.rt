@@ -1,4 +1,4 @@
-// The new total of a step, and the checks 12 and 13: for this crate and the crates above. Each function has its whole contract.
+// The new total of a step, and the checks 12, 13 and 17: for this crate and the crates above. Each function has its whole contract.
 ghost use mathlib.Core.Path.{_≡_};
 ghost use Prim.Native.Nat.{_≤_};
 ghost use lib.IntN.{pos, _+ℤ_};
@@ -7,7 +7,7 @@ ghost use lib.ListN.{length};
 ghost use Rattle.numbers.specs.Signed.{over};
 ghost use Rattle.numbers.specs.Checks.{maxTotal};
 ghost use Rattle.kept_spec.specs.Open.{checkTotal};
-ghost use Rattle.kept_spec.specs.Step.{checkKept};
+ghost use Rattle.kept_spec.specs.Step.{checkSameScale, checkKept};
 use numbers::Checked;
 use numbers::arith::at_most;
 use numbers::checks::and;
@@ -27,6 +27,13 @@ pub fn whole(z: i64) -> u32
     ensures { λ r. ⌜ r ≡ over z ⌝ }
 {
     z as u32
+}
+
+// 17: a scale k above 30, or not b, that of the balance.
+pub fn check_same_scale(k: u32, b: u32) -> Checked
+    ensures { λ r. ⌜ r ≡ checkSameScale k b ⌝ }
+{
+    unless(and(k <= 30, k == b), 17, 0)
 }
 
 // 12: kept masses that do not add up to the total given.

@@ -5,6 +5,7 @@ ghost use Rattle.kept_spec.specs.Open.{openVerdict};
 ghost use Rattle.kept_spec.specs.Step.{stepCall, stepVerdict};
 use crate::totals::add_source;
 use crate::totals::check_kept;
+use crate::totals::check_same_scale;
 use crate::totals::check_total;
 use crate::totals::whole;
 use field_checks::shape::check_shape;
@@ -14,24 +15,29 @@ use kept_spec::Balance;
 use numbers::Checked;
 use numbers::arith::signed;
 use numbers::checks::check_count;
+use numbers::checks::check_scale;
+use numbers::checks::then;
 use numbers::lists::sum_of;
 
-// Open's checks: 1; 13.
-pub fn open_verdict(kept: &[u32]) -> Checked
-    ensures { λ r. ⌜ r ≡ openVerdict (now (kept .entry)) ⌝ }
+// Open's checks: 1; 9; 13.
+pub fn open_verdict(kept: &[u32], scale: u32) -> Checked
+    ensures { λ r. ⌜ r ≡ openVerdict (now (kept .entry)) scale ⌝ }
 {
     let count = check_count(kept.len());
-    if let Checked::Fail { number, place } = count {
+    let in_range = check_scale(scale);
+    let inputs = then(count, in_range);
+    if let Checked::Fail { number, place } = inputs {
         return Checked::Fail { number, place };
     }
     check_total(signed(sum_of(kept)))
 }
 
-// Step's checks: 1 to 3, the kept list counted under 3; 4 to 7; 12; 13; 8.
+// Step's checks: 1 to 3, the kept list counted under 3; 17; 4 to 7; 12; 13; 8.
 pub fn step_verdict(
     balance: Balance,
     kept: &[u32],
     source: i32,
+    scale: u32,
     targets: &[i32],
     lows: &[u32],
     highs: &[u32],
@@ -43,7 +49,7 @@ pub fn step_verdict(
 ) -> Checked
     ensures { λ r.
         ⌜ r ≡ stepVerdict
-        (stepCall balance (now (kept .entry)) source
+        (stepCall balance (now (kept .entry)) source scale
         (lists (now (targets .entry)) (now (lows .entry)) (now (highs .entry)) (now («safe_lows» .entry)) (now («safe_highs» .entry))
         (now (weights .entry)) (now (parents .entry)))
         (now (scratch .entry))) ⌝ }
@@ -62,6 +68,7 @@ pub fn step_verdict(
     if let Checked::Fail { number, place } = shape {
         return Checked::Fail { number, place };
     }
+    let same_scale = check_same_scale(scale, balance.scale);
     let values = check_values(
         targets,
         lows,
@@ -71,7 +78,8 @@ pub fn step_verdict(
         weights,
         parents,
     );
-    if let Checked::Fail { number, place } = values {
+    let inputs = then(same_scale, values);
+    if let Checked::Fail { number, place } = inputs {
         return Checked::Fail { number, place };
     }
     let adds_up = check_kept(kept, balance.total);

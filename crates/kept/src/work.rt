@@ -12,15 +12,16 @@ use numbers::arith::narrow;
 use numbers::lists::sum_of;
 
 // Open's answer, by its verdict.
-pub fn open_by(verdict: Checked, kept: &[u32]) -> Opened
-    requires { ⌜ verdict ≡ openVerdict (now kept) ⌝ }
-    ensures { λ r. ⌜ OpenContract (now (kept .entry)) r ⌝ }
+pub fn open_by(verdict: Checked, kept: &[u32], scale: u32) -> Opened
+    requires { ⌜ verdict ≡ openVerdict (now kept) scale ⌝ }
+    ensures { λ r. ⌜ OpenContract (now (kept .entry)) scale r ⌝ }
 {
     if let Checked::Fail { number, place } = verdict {
         return Opened::Refused { number, place };
     }
     Opened::Accepted(Balance {
         total: narrow(sum_of(kept)),
+        scale,
     })
 }
 
@@ -30,6 +31,7 @@ pub fn step_by(
     balance: Balance,
     kept: &mut [u32],
     source: i32,
+    scale: u32,
     targets: &[i32],
     lows: &[u32],
     highs: &[u32],
@@ -40,11 +42,11 @@ pub fn step_by(
     scratch: &mut [i64],
 ) -> Stepped
     requires { ⌜ verdict ≡ stepVerdict
-        (stepCall balance (now kept) source
+        (stepCall balance (now kept) source scale
         (lists (now targets) (now lows) (now highs) (now «safe_lows») (now «safe_highs») (now weights) (now parents)) (now scratch)) ⌝ }
     ensures { λ r.
         ⌜ StepContract
-        (stepCall balance (now (kept .entry)) source
+        (stepCall balance (now (kept .entry)) source scale
         (lists (now (targets .entry)) (now (lows .entry)) (now (highs .entry)) (now («safe_lows» .entry)) (now («safe_highs» .entry))
         (now (weights .entry)) (now (parents .entry)))
         (now (scratch .entry)))
@@ -70,6 +72,7 @@ pub fn step_by(
         repair,
         balance: Balance {
             total: repair.total,
+            scale: balance.scale,
         },
     }
 }

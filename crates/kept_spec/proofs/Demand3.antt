@@ -1,5 +1,6 @@
 -- Demand 3: after every accepted opening and every run of Step calls, the kept masses add up to the opening total plus the sources of the
--- accepted steps, which is the total standing, and each step has the whole tree's facts. Every event that Step's contract promises and that
+-- accepted steps, which is the total standing; the accepted steps and the balance standing are at the opening's scale; and each step has the
+-- whole tree's facts. Every event that Step's contract promises and that
 -- is lent what stands can move a run on, and for every input there is such an event. Assumes nothing.
 use mathlib.Core.Path.{_≡_, refl, sym, _∙_, ap, ap₂, subst, subst⁻¹}
 use mathlib.Core.Logic.{_⊎_, ⊎-elim, _↔_}
@@ -13,7 +14,7 @@ use Rattle.numbers.specs.Sums.{ℕ-adds, sumTo}
 use Rattle.numbers.specs.Signed.{over}
 use Rattle.numbers.specs.Checks.{Answered, accepted, refused, answered, after, Broken}
 use Rattle.numbers.proofs.PartLaws.{part-whole}
-use Rattle.numbers.proofs.CheckLaws.{answered-accepted, answered-refused, no-pass}
+use Rattle.numbers.proofs.CheckLaws.{answered-refused, no-pass}
 use Rattle.qlt_spec.specs.Field.{Field, nodes, scratchPerNode, field, Meets}
 use Rattle.qlt_spec.specs.Masses.{treeMasses}
 use Rattle.numbers.specs.Lists.{sum}
@@ -23,11 +24,12 @@ use Rattle.qlt_spec.proofs.FactLaws.{reachable-sums}
 use Rattle.qlt_spec.proofs.OperationLaws.{fits-valid}
 use Rattle.kept_spec.specs.declared.Balance.{Balance}
 use Rattle.kept_spec.specs.declared.Opened.{Opened}
-use Rattle.kept_spec.specs.Open.{openVerdict, openBalance, openTells, OpenContract}
+use Rattle.kept_spec.specs.Open.{openTells, OpenContract}
 use Rattle.kept_spec.specs.Step.{StepCall, next, newTotal, stepVerdict, stepRules, StepFits, StepResult, stepResult, stepAnswer}
 use Rattle.kept_spec.specs.Run.{Run, sumOf, Sound}
-use Rattle.kept_spec.specs.Account.{Event, Standing, told, Accepts, ForTotal, balanceAfter, gainBy, gain, Promised, Moves, Reachable, StepFacts, Account}
-use Rattle.kept_spec.proofs.RunLaws.{run-keeps, run-gains, run-facts}
+use Rattle.kept_spec.specs.Account.{Event, Standing, told, Accepts, ForTotal, balanceAfter, gainBy, gain, Promised, Moves, Reachable, StepFacts, AtScale, Account}
+use Rattle.kept_spec.proofs.RunLaws.{run-keeps, run-gains, run-facts, all-map}
+use Rattle.kept_spec.proofs.OpenLaws.{opened-balance}
 use Rattle.kept_spec.proofs.StepLaws.{step-accepts, step-refuses, Past, refused-for-total, answer-tells, least-cells, most-cells, accepted-sum, accepted-facts, refused-keeps, step-account}
 
 -- ---- which calls are accepted
@@ -51,7 +53,7 @@ module _ (c : StepCall) where
       (least-cells (c .lists) l (newTotal c) .0 (f .reach .least), most-cells (c .lists) l (newTotal c) .0 (f .reach .most)) in
       (t .0, subst (λ z. Meets (F .n) (F .safeLow) (F .safeHigh) z (t .0)) (f .whole) (t .1))
 
-  -- past 1 to 7 and 12, a call that can be reached fits
+  -- past 1 to 7, 17 and 12, a call that can be reached fits
   reachable-fits : Past c → Reachable c → StepFits c
   reachable-fits p t =
       let l = p .shape .lengths in
@@ -59,6 +61,8 @@ module _ (c : StepCall) where
       let high = most-cells (c .lists) l (newTotal c) .1 (m .1 .1) in
       record {
         shape = p .shape;
+        scale-small = p .scale-small;
+        same-scale = p .same-scale;
         values = p .values;
         adds-up = p .adds-up;
         whole = m .0;
@@ -118,26 +122,42 @@ module _ (s : Standing) (e : Event) (a b : List ℕ) (p : Promised e) (part : s 
 
 -- ---- every run
 
--- the invariant and the value of a run
-abbrev pub Balanced : Standing → Type 0
-Balanced s = sum (s .kept) ≡ s .balance .total
+-- the invariant of a run at the scale k, its value, and the facts of its events
+pub record Balanced (k : ℕ) (s : Standing) : Type 0 where
+  pub adds-up : sum (s .kept) ≡ s .balance .total
+  pub scale : s .balance .scale ≡ k
 
 abbrev pub worth : Standing → ℤ
 worth s = pos (sum (s .kept))
+
+pub record EventFacts (k : ℕ) (e : Event) : Type 0 where
+  pub step : StepFacts e
+  pub at-scale : AtScale k e
 
 no-gain : (a : Answered StepResult) (z : ℤ) → (Accepts a → ⊥) → gainBy a z ≡ pos 0
 no-gain (accepted r) z h = absurd (h tt)
 no-gain (refused number place) z h = refl
 
 module _ (s : Standing) (e : Event) (before rest : List ℕ) (p : Promised e) (part : s .kept ≡ before ++ (e .call .kept ++ rest)) (whole : Accepts (told e) → (e .call .kept ≡ s .kept) × (e .call .balance ≡ s .balance)) where
-  lent-keeps : Balanced s → sum (before ++ (e .kept ++ rest)) ≡ balanceAfter (told e) (s .balance) .total
-  lent-keeps b = by-told (told e) refl whole
+  lent-adds-up : sum (s .kept) ≡ s .balance .total → sum (before ++ (e .kept ++ rest)) ≡ balanceAfter (told e) (s .balance) .total
+  lent-adds-up b = by-told (told e) refl whole
     where
       by-told :
           (a : Answered StepResult) → told e ≡ a → (Accepts a → (e .call .kept ≡ s .kept) × (e .call .balance ≡ s .balance))
           → sum (before ++ (e .kept ++ rest)) ≡ balanceAfter a (s .balance) .total
       by-told (accepted r) t w = ap sum (lent-whole s e before rest p part (w tt .0)) ∙ accepted-sum e p r t
       by-told (refused number place) t w = ap sum (lent-same s e before rest p part number place t) ∙ b
+
+  -- accepted, it names the scale of the balance given, which is the one standing
+  lent-scale : AtScale (s .balance .scale) e
+  lent-scale a = step-facts e p .accepts .0 a .same-scale ∙ ap (λ b. b .scale) (whole a .1)
+
+  lent-keeps-scale : balanceAfter (told e) (s .balance) .scale ≡ s .balance .scale
+  lent-keeps-scale = by-told (told e) refl lent-scale
+    where
+      by-told : (a : Answered StepResult) → told e ≡ a → (Accepts a → e .call .scale ≡ s .balance .scale) → balanceAfter a (s .balance) .scale ≡ s .balance .scale
+      by-told (accepted r) t w = accepted-facts e p r t .scale ∙ w tt
+      by-told (refused number place) t w = refl
 
   lent-gains : pos (sum (before ++ (e .kept ++ rest))) ≡ worth s +ℤ gain e
   lent-gains = by-told (told e) refl whole
@@ -151,31 +171,42 @@ module _ (s : Standing) (e : Event) (before rest : List ℕ) (p : Promised e) (p
           ∙ ap₂ (λ l g. pos (sum l) +ℤ g) (w tt .0) (ap (λ x. gainBy x (e .call .source)) t)
       by-told (refused number place) t w = ap (λ l. pos (sum l)) (lent-same s e before rest p part number place t) ∙ sym (+ℤ-idr (worth s))
 
-moves-keeps : {s t : Standing} {e : Event} → Balanced s → Moves s e t → Balanced t
-moves-keeps {s} {e = e} b (Moves.lent before rest p part w) = lent-keeps s e before rest p part w b
-moves-keeps b (Moves.elsewhere p r) = b
+module _ {k : ℕ} where
+  moves-keeps : {s t : Standing} {e : Event} → Balanced k s → Moves s e t → Balanced k t
+  moves-keeps {s} {e = e} b (Moves.lent before rest p part w) =
+      record {
+        adds-up = lent-adds-up s e before rest p part w (b .adds-up);
+        scale = lent-keeps-scale s e before rest p part w ∙ b .scale;
+      }
+  moves-keeps b (Moves.elsewhere p r) = b
 
-moves-gains : {s t : Standing} {e : Event} → Balanced s → Moves s e t → worth t ≡ worth s +ℤ gain e
-moves-gains {s} {e = e} b (Moves.lent before rest p part w) = lent-gains s e before rest p part w
-moves-gains {s} {e = e} b (Moves.elsewhere p r) = sym (ap (λ z. worth s +ℤ z) (no-gain (told e) (e .call .source) r) ∙ +ℤ-idr (worth s))
+  moves-gains : {s t : Standing} {e : Event} → Balanced k s → Moves s e t → worth t ≡ worth s +ℤ gain e
+  moves-gains {s} {e = e} b (Moves.lent before rest p part w) = lent-gains s e before rest p part w
+  moves-gains {s} {e = e} b (Moves.elsewhere p r) = sym (ap (λ z. worth s +ℤ z) (no-gain (told e) (e .call .source) r) ∙ +ℤ-idr (worth s))
 
-moves-facts : {s t : Standing} {e : Event} → Balanced s → Moves s e t → StepFacts e
-moves-facts {e = e} b (Moves.lent before rest p part w) = step-facts e p
-moves-facts {e = e} b (Moves.elsewhere p r) = step-facts e p
+  moves-facts : {s t : Standing} {e : Event} → Balanced k s → Moves s e t → EventFacts k e
+  moves-facts {s} {e = e} b (Moves.lent before rest p part w) =
+      record { step = step-facts e p; at-scale = λ a. lent-scale s e before rest p part w a ∙ b .scale }
+  moves-facts {e = e} b (Moves.elsewhere p r) = record { step = step-facts e p; at-scale = λ a. absurd (r a) }
 
-pub moves-sound : Sound Moves Balanced worth gain StepFacts
-moves-sound = record { keeps = moves-keeps; gains = moves-gains; facts = moves-facts }
+  pub moves-sound : Sound Moves (Balanced k) worth gain (EventFacts k)
+  moves-sound = record { keeps = moves-keeps; gains = moves-gains; facts = moves-facts }
 
 -- THE theorem
 pub demand3 :
-    (opened : List ℕ) (answer : Opened) (opening : Balance) → OpenContract opened answer → openTells answer ≡ accepted opening
+    (opened : List ℕ) (k : ℕ) (answer : Opened) (opening : Balance) → OpenContract opened k answer → openTells answer ≡ accepted opening
     → (es : List Event) (end : Standing) → Run Moves (record { kept = opened; balance = opening }) es end → Account opening es end
-demand3 opened answer opening p t es end r =
-    let b : sum opened ≡ opening .total = sym (ap (λ x. x .total) (answered-accepted (openVerdict opened) opening (openBalance opened) (sym t ∙ p .answers) .1)) in
+demand3 opened k answer opening p t es end r =
+    let b : Balanced (opening .scale) (record { kept = opened; balance = opening }) =
+    record { adds-up = sym (ap (λ x. x .total) (opened-balance opened k answer opening p t .1)); scale = refl } in
+    let z = run-keeps moves-sound b r in
+    let f = run-facts moves-sound b r in
     record {
-      sums = run-gains moves-sound b r ∙ ap (λ n. pos n +ℤ sumOf gain es) b;
-      standing = run-keeps moves-sound b r;
-      steps = run-facts moves-sound b r;
+      sums = run-gains moves-sound b r ∙ ap (λ n. pos n +ℤ sumOf gain es) (b .adds-up);
+      standing = z .adds-up;
+      scales = all-map (λ e h. h .at-scale) f;
+      scale = z .scale;
+      steps = all-map (λ e h. h .step) f;
     }
 
 -- ---- runs are not empty talk

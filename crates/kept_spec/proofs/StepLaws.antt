@@ -3,7 +3,7 @@
 use mathlib.Core.Path.{_≡_, refl, sym, _∙_, ap, subst}
 use mathlib.Core.Logic.{_⊎_, inl, inr, ⊎-elim, _↔_}
 use mathlib.Core.Bool.{false}
-use mathlib.Core.List.{List, [], _∷_}
+use mathlib.Core.List.{List, [], _∷_, _++_}
 use Prim.Native.Nat.{ℕ, _≤_}
 use native.Mathlib.Omega.{arith}
 use lib.IntN.{pos, _+ℤ_, +ℤ-idr}
@@ -14,7 +14,7 @@ use Rattle.numbers.specs.declared.Checked.the-variants.{Pass, Fail}
 use Rattle.numbers.specs.Sums.{ℕ-adds, sumTo}
 use Rattle.numbers.specs.Lists.{at, sum}
 use Rattle.numbers.specs.Checks.{Answered, accepted, refused, first, both, Rule, Decides, DecidesAll, Holds, Broken, numbersOf, RefuseWith, Extends, maxTotal}
-use Rattle.numbers.proofs.TestLaws.{eq-means, injective}
+use Rattle.numbers.proofs.TestLaws.{eq-means, le-means, and-means, injective}
 use Rattle.numbers.proofs.SignedLaws.{le-parts, parts-le, from-zero-whole}
 use Rattle.numbers.proofs.CheckLaws.{decides-unless, decides-then, decides-append, holds-append, broken-append}
 use Rattle.numbers.proofs.ChainLaws.{extends-fail, isOne, not-broken, refuse-with}
@@ -29,11 +29,15 @@ use Rattle.qlt_spec.proofs.OperationLaws.{told-passed, told-result, told-masses
 use Rattle.kept_spec.specs.declared.Stepped.{Stepped}
 use Rattle.kept_spec.specs.declared.Stepped.the-variants.{Accepted, Refused}
 use Rattle.kept_spec.specs.Open.{checkTotal, totalRule}
-use Rattle.kept_spec.specs.Step.{StepCall, next, newTotal, repairCall, checkKept, stepChecks, stepVerdict, keptRule, stepRules, StepFits, StepResult, stepResult, stepTells, stepAnswer}
+use Rattle.kept_spec.specs.Step.{StepCall, next, newTotal, repairCall, checkSameScale, checkKept, stepChecks, stepVerdict, scaleRule, keptRule, stepRules, StepFits, StepResult, stepResult, stepTells, stepAnswer}
 use Rattle.kept_spec.specs.Account.{Event, told, Promised, AcceptedFacts, gain, gainBy}
 use Rattle.kept_spec.proofs.OpenLaws.{total-decides}
 
 -- ---- each check, and the verdict
+
+pub same-scale-decides : (k b : ℕ) → Decides (checkSameScale k b) (scaleRule k b)
+unfolding checkSameScale
+same-scale-decides k b = decides-unless _ 17 (and-means (le-means k 30) (eq-means k b))
 
 pub kept-decides : (kept : List ℕ) (total : ℕ) → Decides (checkKept kept total) (keptRule kept total)
 unfolding checkKept
@@ -45,6 +49,10 @@ module _ (c : StepCall) where
 
   abbrev s : ℕ
   s = length (c .scratch)
+
+  -- 17
+  abbrev same : Checked
+  same = checkSameScale (c .scale) (c .balance .scale)
 
   -- 12, 13 and 8
   abbrev totals : Checked
@@ -62,17 +70,20 @@ module _ (c : StepCall) where
   pub step-decides : DecidesAll (stepVerdict c) (stepRules c)
   unfolding stepVerdict
   step-decides =
-      decides-append (shapeOf k (c .lists) s) (both (checkValues (c .lists)) totals) (shapeRules (c .lists) k s) _ (shape-decides (c .lists) k s)
-      (decides-append (checkValues (c .lists)) totals (valueRules (c .lists)) totalRules (values-decides (c .lists)) totals-decides)
+      decides-append (shapeOf k (c .lists) s) (both same (both (checkValues (c .lists)) totals)) (shapeRules (c .lists) k s) _ (shape-decides (c .lists) k s)
+      (decides-then same _ _ _ (same-scale-decides (c .scale) (c .balance .scale))
+      (decides-append (checkValues (c .lists)) totals (valueRules (c .lists)) totalRules (values-decides (c .lists)) totals-decides))
 
   pub step-refuses : (number place : ℕ) → (stepVerdict c ≡ Fail number place) ↔ Broken (stepRules c) number place
   step-refuses = step-decides .fails
 
-  totals-fit : Holds totalRules → ShapeFits (c .lists) k s → ValuesFit (c .lists) → StepFits c
+  totals-fit : Holds totalRules → ShapeFits (c .lists) k s → (c .scale ≤ 30) × (c .scale ≡ c .balance .scale) → ValuesFit (c .lists) → StepFits c
   unfolding Holds
-  totals-fit h f g =
+  totals-fit h f z g =
       record {
         shape = f;
+        scale-small = z .0;
+        same-scale = z .1;
         values = g;
         adds-up = h .0;
         whole = sym (from-zero-whole (next c) (h .1 .0 .0));
@@ -94,55 +105,70 @@ module _ (c : StepCall) where
   )
 
   rules-fit : Holds (stepRules c) ↔ StepFits c
+  unfolding Holds
   rules-fit = (
     λ h.
         let a = holds-append (shapeRules (c .lists) k s) _ .0 h in
-        let b = holds-append (valueRules (c .lists)) totalRules .0 (a .1) in
-        totals-fit (b .1) (shape-holds (c .lists) k s .0 (a .0)) (values-hold (c .lists) .0 (b .0)),
+        let b = holds-append (valueRules (c .lists)) totalRules .0 (a .1 .1) in
+        totals-fit (b .1) (shape-holds (c .lists) k s .0 (a .0)) (a .1 .0) (values-hold (c .lists) .0 (b .0)),
     λ f.
-        holds-append (shapeRules (c .lists) k s) _ .1
-        (shape-holds (c .lists) k s .1 (f .shape), holds-append (valueRules (c .lists)) totalRules .1 (values-hold (c .lists) .1 (f .values), fits-totals f)),
+        holds-append (shapeRules (c .lists) k s) _ .1 (
+          shape-holds (c .lists) k s .1 (f .shape),
+          ((f .scale-small, f .same-scale), holds-append (valueRules (c .lists)) totalRules .1 (values-hold (c .lists) .1 (f .values), fits-totals f)),
+        ),
   )
 
   pub step-accepts : (stepVerdict c ≡ Pass) ↔ StepFits c
   step-accepts = (λ e. rules-fit .0 (step-decides .passes .0 e), λ f. step-decides .passes .1 (rules-fit .1 f))
 
-  -- 'As Reconstruct 1 to 7 .. Then 8': Step's checks are Reconstruct's for the new total, with 12 and 13 put in
-  pub step-extends : Extends (λ n. (n ≡ 12) ⊎ (n ≡ 13)) (stepChecks c) (reconstructChecks (repairCall c))
+  -- 'As Reconstruct 1 to 7 .. Then 8': Step's checks are Reconstruct's for the new total, with 17, 12 and 13 put in
+  abbrev pub Own : ℕ → Type 0
+  Own n = (n ≡ 17) ⊎ ((n ≡ 12) ⊎ (n ≡ 13))
+
+  pub step-extends : Extends Own (stepChecks c) (reconstructChecks (repairCall c))
   step-extends =
       Extends.shared
+      (Extends.extra (λ n p e. inl (same-scale-decides (c .scale) (c .balance .scale) .fails n p .0 e .0))
       (Extends.shared
-      (Extends.extra (λ n p e. inl (kept-decides (c .kept) (c .balance .total) .fails n p .0 e .0))
-      (Extends.extra (λ n p e. inr (total-decides (next c) .fails n p .0 e .0)) (Extends.shared Extends.end))))
+      (Extends.extra (λ n p e. inr (inl (kept-decides (c .kept) (c .balance .total) .fails n p .0 e .0)))
+      (Extends.extra (λ n p e. inr (inr (total-decides (next c) .fails n p .0 e .0))) (Extends.shared Extends.end)))))
 
-  -- so a step that is refused is refused with 12 or 13, or as Reconstruct refuses that repair
-  pub step-as-repair : (number place : ℕ) → stepVerdict c ≡ Fail number place → ((number ≡ 12) ⊎ (number ≡ 13)) ⊎ (reconstructVerdict (repairCall c) ≡ Fail number place)
+  -- so a step that is refused is refused with 17, 12 or 13, or as Reconstruct refuses that repair
+  pub step-as-repair : (number place : ℕ) → stepVerdict c ≡ Fail number place → Own number ⊎ (reconstructVerdict (repairCall c) ≡ Fail number place)
   unfolding stepVerdict reconstructVerdict
   step-as-repair number place e = extends-fail step-extends e
 
-  -- it refuses with 01's numbers and no others
-  pub step-numbers : RefuseWith (stepRules c) (1 ∷ 2 ∷ 3 ∷ 4 ∷ 5 ∷ 6 ∷ 7 ∷ 12 ∷ 13 ∷ 8 ∷ [])
+  -- it refuses with the papers' numbers and no others
+  pub step-numbers : RefuseWith (stepRules c) (1 ∷ 2 ∷ 3 ∷ 17 ∷ 4 ∷ 5 ∷ 6 ∷ 7 ∷ 12 ∷ 13 ∷ 8 ∷ [])
   unfolding shapeRules valueRules
   step-numbers = refuse-with (stepRules c) _ refl refl
 
   -- ---- refused for its new total
 
-  -- past 1 to 7 and 12
+  -- past 1 to 7, 17 and 12
   pub record Past : Type 0 where
     pub shape : ShapeFits (c .lists) k s
+    pub scale-small : c .scale ≤ 30
+    pub same-scale : c .scale ≡ c .balance .scale
     pub values : ValuesFit (c .lists)
     pub adds-up : sum (c .kept) ≡ c .balance .total
 
   past-by :
-      (n : ℕ) → isOne (numbersOf (shapeRules (c .lists) k s)) n ≡ false → isOne (numbersOf (valueRules (c .lists))) n ≡ false → (n ≡ 12 → ⊥)
+      (n : ℕ) → isOne (numbersOf (shapeRules (c .lists) k s)) n ≡ false → isOne (numbersOf (valueRules (c .lists))) n ≡ false → (n ≡ 17 → ⊥) → (n ≡ 12 → ⊥)
       → (number place : ℕ) → number ≡ n → Broken (stepRules c) number place → Past
-  past-by n x y z number place e h =
+  past-by n x y u z number place e h =
       ⊎-elim (λ b. absurd (not-broken (shapeRules (c .lists) k s) n x number place e b))
-      (λ a. ⊎-elim (λ b. absurd (not-broken (valueRules (c .lists)) n y number place e b))
-      (λ b. record { shape = shape-holds (c .lists) k s .0 (a .0); values = values-hold (c .lists) .0 (b .0); adds-up = adds (b .1) })
-      (broken-append (valueRules (c .lists)) totalRules number place .0 (a .1)))
+      (λ a. let d = scaled (a .1) in
+      ⊎-elim (λ b. absurd (not-broken (valueRules (c .lists)) n y number place e b))
+      (λ b. record { shape = shape-holds (c .lists) k s .0 (a .0); scale-small = d .0 .0; same-scale = d .0 .1; values = values-hold (c .lists) .0 (b .0); adds-up = adds (b .1) })
+      (broken-append (valueRules (c .lists)) totalRules number place .0 (d .1)))
       (broken-append (shapeRules (c .lists) k s) _ number place .0 h)
     where
+      scaled :
+          Broken (scaleRule (c .scale) (c .balance .scale) ∷ (valueRules (c .lists) ++ totalRules)) number place
+          → ((c .scale ≤ 30) × (c .scale ≡ c .balance .scale)) × Broken (valueRules (c .lists) ++ totalRules) number place
+      scaled g = unfold Broken in (⊎-elim (λ b. absurd (u (sym e ∙ b .0))) (λ b. b) g)
+
       adds : Broken totalRules number place → sum (c .kept) ≡ c .balance .total
       adds g = unfold Broken in (⊎-elim (λ b. absurd (z (sym e ∙ b .0))) (λ b. b .0) g)
 
@@ -150,8 +176,8 @@ module _ (c : StepCall) where
   pub refused-for-total : (number place : ℕ) → stepVerdict c ≡ Fail number place → (number ≡ 13) ⊎ (number ≡ 8) → Past
   unfolding shapeRules valueRules
   refused-for-total number place e o =
-      ⊎-elim (λ x. past-by 13 refl refl (λ q. omega arith) number place x (step-refuses number place .0 e))
-      (λ x. past-by 8 refl refl (λ q. omega arith) number place x (step-refuses number place .0 e)) o
+      ⊎-elim (λ x. past-by 13 refl refl (λ q. omega arith) (λ q. omega arith) number place x (step-refuses number place .0 e))
+      (λ x. past-by 8 refl refl (λ q. omega arith) (λ q. omega arith) number place x (step-refuses number place .0 e)) o
 
 -- ---- the answer
 
@@ -223,6 +249,7 @@ module _ (e : Event) (p : Promised e) where
     accepted-facts =
         record {
           moves = ap pos accepted-total ∙ accepted-fits .whole;
+          scale = ap (λ q. q .balance .scale) (told-result so) ∙ sym (accepted-fits .same-scale);
           tells = ap (λ q. q .repair) (told-result so) ∙ ap (repair (c .lists)) (sym accepted-total);
           masses = told-masses so ∙ ap (treeMasses (field (c .lists))) (sym accepted-total);
           facts =

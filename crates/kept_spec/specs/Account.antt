@@ -75,6 +75,8 @@ Reachable c = (y : ℕ → ℤ) × Meets (field (c .lists) .n) (field (c .lists)
 pub record AcceptedFacts (c : StepCall) (r : StepResult) (kept : List ℕ) : Type 0 where
   -- 'its new total': M is the total given plus the source, and the new balance's total is that M
   pub moves : pos (r .balance .total) ≡ next c
+  -- and its scale is the one that the step names
+  pub scale : r .balance .scale ≡ c .scale
   -- the outcome, the total, the change and what was shared out are those of its field
   pub tells : r .repair ≡ repair (c .lists) (r .balance .total)
   -- 'the masses are those that document 01's whole tree gives for its field and new total'
@@ -93,11 +95,18 @@ pub record StepFacts (e : Event) : Type 0 where
   -- 'a step accepted or refused for its new total was accepted exactly when some masses within its safety bounds reach it'
   pub decided : Accepts (told e) ⊎ ForTotal (told e) → Accepts (told e) ↔ Reachable (e .call)
 
+-- an accepted step is at the scale k
+abbrev pub AtScale : ℕ → Event → Type 0
+AtScale k e = Accepts (told e) → e .call .scale ≡ k
+
 -- demand 3
 pub record Account (opening : Balance) (es : List Event) (end : Standing) : Type 0 where
   -- 'these add up to the opening total plus the sources of the accepted steps'
   pub sums : pos (sum (end .kept)) ≡ pos (opening .total) +ℤ sumOf gain es
   -- 'which is the total standing'
   pub standing : sum (end .kept) ≡ end .balance .total
+  -- 'a run's accepted steps are all at the opening's scale' (02), and so is the balance standing
+  pub scales : All (AtScale (opening .scale)) es
+  pub scale : end .balance .scale ≡ opening .scale
   -- 'after each accepted step ..'
   pub steps : All StepFacts es

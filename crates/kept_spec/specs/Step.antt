@@ -1,8 +1,9 @@
 -- The operation Step: what it is given, its verdict, its answer, and the lists it leaves. Assumes nothing.
 use mathlib.Core.Path.{_≡_}
+use mathlib.Core.Bool.{_&&_}
 use mathlib.Core.List.{List, [], _∷_, _++_}
 use Prim.Native.Nat.{ℕ, _≤_}
-use lib.Dec.{eqb}
+use lib.Dec.{leb, eqb}
 use lib.IntN.{ℤ, pos, _+ℤ_}
 use lib.ListN.{length}
 use Rattle.numbers.specs.declared.Checked.{Checked}
@@ -23,11 +24,13 @@ pub record StepCall : Type 0 where
   pub balance : Balance
   pub kept : List ℕ
   pub source : ℤ
+  pub scale : ℕ
   pub lists : Lists
   pub scratch : List ℤ
 
-abbrev pub stepCall : Balance → List ℕ → ℤ → Lists → List ℤ → StepCall
-stepCall balance kept source lists scratch = record { balance = balance; kept = kept; source = source; lists = lists; scratch = scratch }
+abbrev pub stepCall : Balance → List ℕ → ℤ → ℕ → Lists → List ℤ → StepCall
+stepCall balance kept source scale lists scratch =
+    record { balance = balance; kept = kept; source = source; scale = scale; lists = lists; scratch = scratch }
 
 -- the total given plus the source; as a natural number it is the field's M
 abbrev pub next : StepCall → ℤ
@@ -42,14 +45,19 @@ repairCall c = reconstructCall (c .lists) (newTotal c) (c .kept) (c .scratch)
 
 -- ---- the checks
 
+-- 17 (02): a scale k above 30, or not b, that of the balance
+unfoldable pub checkSameScale : ℕ → ℕ → Checked
+checkSameScale k b = unless (leb k 30 && eqb k b) 17 0
+
 -- 12: kept masses that do not add up to the total given
 unfoldable pub checkKept : List ℕ → ℕ → Checked
 checkKept kept total = unless (eqb (sum kept) total) 12 0
 
--- 1 to 3, the kept list counted under 3; 4 to 7; 12; 13; 8
+-- 1 to 3, the kept list counted under 3; 17; 4 to 7; 12; 13; 8
 abbrev pub stepChecks : StepCall → List Checked
 stepChecks c =
     shapeOf (length (c .kept)) (c .lists) (length (c .scratch))
+    ∷ checkSameScale (c .scale) (c .balance .scale)
     ∷ checkValues (c .lists)
     ∷ checkKept (c .kept) (c .balance .total)
     ∷ checkTotal (next c)
@@ -61,17 +69,23 @@ stepVerdict c = first (stepChecks c)
 
 -- ---- what the checks mean
 
+abbrev pub scaleRule : ℕ → ℕ → Rule
+scaleRule k b = rule 17 ((k ≤ 30) × (k ≡ b))
+
 abbrev pub keptRule : List ℕ → ℕ → Rule
 keptRule kept total = rule 12 (sum kept ≡ total)
 
 abbrev pub stepRules : StepCall → List Rule
 stepRules c =
     shapeRules (c .lists) (length (c .kept)) (length (c .scratch))
-    ++ (valueRules (c .lists)
-    ++ (keptRule (c .kept) (c .balance .total) ∷ totalRule (next c) ∷ reachRule (c .lists) (newTotal c) ∷ []))
+    ++ (scaleRule (c .scale) (c .balance .scale)
+    ∷ (valueRules (c .lists)
+    ++ (keptRule (c .kept) (c .balance .total) ∷ totalRule (next c) ∷ reachRule (c .lists) (newTotal c) ∷ [])))
 
 pub record StepFits (c : StepCall) : Type 0 where
   pub shape : ShapeFits (c .lists) (length (c .kept)) (length (c .scratch))
+  pub scale-small : c .scale ≤ 30
+  pub same-scale : c .scale ≡ c .balance .scale
   pub values : ValuesFit (c .lists)
   pub adds-up : sum (c .kept) ≡ c .balance .total
   pub whole : pos (newTotal c) ≡ next c
@@ -80,13 +94,13 @@ pub record StepFits (c : StepCall) : Type 0 where
 
 -- ---- the answer, and the lists at exit
 
--- what an accepted step gives beside the masses: the repair of its field for the new total, and the new balance
+-- what an accepted step gives beside the masses: the repair of its field for the new total, and the new balance, at the scale of the old one
 pub record StepResult : Type 0 where
   pub repair : Repair
   pub balance : Balance
 
 abbrev pub stepResult : StepCall → StepResult
-stepResult c = record { repair = repair (c .lists) (newTotal c); balance = record { total = newTotal c } }
+stepResult c = record { repair = repair (c .lists) (newTotal c); balance = record { total = newTotal c; scale = c .balance .scale } }
 
 -- what an answer tells, and the answer that tells it
 unfoldable pub stepTells : Stepped → Answered StepResult

@@ -1,9 +1,10 @@
 // The kept field: what Open and Step check, answer and write, runs of Step calls, and the one theorem about every run. Definitions (specs/)
 // and laws (proofs/) alone; the code is in the crate `kept`. Relies on `qlt_spec`, `caas_spec` and `numbers`.
 
-// What stands beside the kept masses: 01's total standing.
+// What stands beside the kept masses, 02's record: 01's total standing, and the scale that it was opened at.
 pub struct Balance {
     pub total: u32,
+    pub scale: u32,
 }
 
 // Open's answer: the balance of the kept masses, or the refusal with 01's number and place.

@@ -1,8 +1,9 @@
-// A test program: a kept field through years of steps. It opens 8 cells, makes 12,000 Step calls with fields drawn by a generator, some
-// with a fault, and prints a line every 500 calls: the calls accepted and refused, the total standing, the sum and a check number of the
-// kept masses, and what the accepted calls have shared out. The sum must be the total in every line. `stdout` was written by an
-// implementation of the papers' own words in another language, and not by this program. Masses stay far below 1000000000, and what is
-// shared out far below 1000000000000, so that the remainders by these, which rule out overflow, change none.
+// A test program: a kept field through years of steps. It makes three openings that are refused, opens 8 cells at scale 20, makes 12,000
+// Step calls with fields drawn by a generator, some with a fault, of the scale too, and prints a line every 500 calls: the calls accepted and
+// refused, those refused with 17 among them, the total and scale standing, the sum and a check number of the kept masses, and what the
+// accepted calls have shared out. The sum must be the total and the scale 20 in every line. `stdout` was written by an implementation of the
+// papers' own words in another language, and not by this program. Masses stay far below 1000000000, and what is shared out far below
+// 1000000000000, so that the remainders by these, which rule out overflow, change none.
 // Relies on `kept`, which it tests, `kept_spec` and `qlt_spec` for the answers, `test_support`, and `numbers` in proofs.
 ghost use Prim.Native.Nat.{_<_, _≤_};
 use draws::draw;
@@ -16,11 +17,13 @@ mod draws;
 mod fields;
 mod output;
 
-// The generator's state, the calls accepted and refused so far, the balance standing, and what the accepted calls have shared out.
+// The generator's state, the calls accepted and refused so far, those refused with 17 among them, the balance standing, and what the accepted
+// calls have shared out.
 pub struct Run {
     pub state: u32,
     pub accepted: u32,
     pub refused: u32,
+    pub refused_with_17: u32,
     pub balance: Balance,
     pub shared: u64,
 }
@@ -30,14 +33,36 @@ fn more(x: u32) -> u32 {
     x % 1000000000 + 1
 }
 
-// The balance given: the one standing, or by fault 1 another.
-fn given_balance(balance: Balance, fault: u32) -> Balance {
+// The total of the balance given: the one standing, or by fault 1 another.
+fn given_total(total: u32, fault: u32) -> u32 {
     if fault == 1 {
-        return Balance {
-            total: more(balance.total),
-        };
+        return more(total);
     }
-    balance
+    total
+}
+
+// The scale of the balance given: the one standing, or by faults 8 and 9 another.
+fn given_total_scale(scale: u32, fault: u32) -> u32 {
+    if fault == 8 {
+        return more(scale);
+    }
+    if fault == 9 { 31 } else { scale }
+}
+
+// The scale that the step names: the one standing, or by faults 6, 7 and 9 another.
+fn given_scale(scale: u32, fault: u32) -> u32 {
+    if fault == 7 {
+        return more(scale);
+    }
+    if fault == 6 || fault == 9 { 31 } else { scale }
+}
+
+// The balance given.
+fn given_balance(balance: Balance, fault: u32) -> Balance {
+    Balance {
+        total: given_total(balance.total, fault),
+        scale: given_total_scale(balance.scale, fault),
+    }
 }
 
 // The source given: the one drawn, or by faults 4 and 5 one that is refused.
@@ -59,18 +84,25 @@ fn accepted(run: Run, state: u32, repair: Repair, balance: Balance) -> Run {
         state,
         accepted: more(run.accepted),
         refused: run.refused,
+        refused_with_17: run.refused_with_17,
         balance,
         shared: run.shared % 1000000000000 + repair.shared % 1000000000000,
     }
 }
 
+// How many were refused with 17, with one more number.
+fn count_17(count: u32, number: u32) -> u32 {
+    if number == 17 { more(count) } else { count }
+}
+
 // The run after a refused call.
-fn refused(run: Run, state: u32) -> Run {
+fn refused(run: Run, state: u32, number: u32) -> Run {
     let balance = run.balance;
     Run {
         state,
         accepted: run.accepted,
         refused: more(run.refused),
+        refused_with_17: count_17(run.refused_with_17, number),
         balance,
         shared: run.shared,
     }
@@ -80,7 +112,7 @@ fn refused(run: Run, state: u32) -> Run {
 fn counted(run: Run, state: u32, answer: Stepped) -> Run {
     match answer {
         Stepped::Accepted { repair, balance } => accepted(run, state, repair, balance),
-        Stepped::Refused { number, place } => refused(run, state),
+        Stepped::Refused { number, place: _ } => refused(run, state, number),
     }
 }
 
@@ -89,6 +121,7 @@ fn step_by(
     balance: Balance,
     kept: &mut [u32; 8],
     source: i32,
+    scale: u32,
     targets: &[i32; 8],
     lows: &[u32; 8],
     highs: &[u32; 8],
@@ -106,6 +139,7 @@ fn step_by(
         balance,
         kept,
         source,
+        scale,
         targets,
         lows,
         highs,
@@ -137,7 +171,7 @@ fn one_call(run: Run, kept: &mut [u32; 8]) -> Run {
         &mut weights,
     );
     let source = draw(state, 3001);
-    let fault = draw(source.state, 8);
+    let fault = draw(source.state, 14);
     fields::cross(fault.value, &mut lows, &mut highs);
     let mut parents = [0u32; 15];
     fields::fill_parents(kind.value, fault.value, &mut parents);
@@ -146,6 +180,7 @@ fn one_call(run: Run, kept: &mut [u32; 8]) -> Run {
         given_balance(balance, fault.value),
         kept,
         given_source(source.value, fault.value),
+        given_scale(run.balance.scale, fault.value),
         &targets,
         &lows,
         &highs,
@@ -175,6 +210,7 @@ fn all_calls(balance: Balance, kept: &mut [u32; 8]) {
         state: 1,
         accepted: 0,
         refused: 0,
+        refused_with_17: 0,
         balance,
         shared: 0,
     };
@@ -186,15 +222,27 @@ fn all_calls(balance: Balance, kept: &mut [u32; 8]) {
     }
 }
 
-// Opens the field, and steps if it is accepted.
+// Opens a field, and prints what Open gave.
+fn show_opening(kept: &[u32], scale: u32) {
+    match kept::open(kept, scale) {
+        Opened::Accepted(balance) => output::show_balance(balance),
+        Opened::Refused { number, place: _ } => output::show_refused(number),
+    }
+}
+
+// Makes the openings, and steps from the last one if it is accepted.
 fn main() {
+    let heavy = [300000000u32; 8];
+    let cells = &heavy[..];
+    show_opening(&cells[0..0], 31);
+    show_opening(&cells[0..8], 31);
+    show_opening(&cells[0..8], 30);
     let mut kept = [1000u32; 8];
-    let answer = kept::open(&kept);
-    match answer {
+    match kept::open(&kept, 20) {
         Opened::Accepted(balance) => {
-            output::show_open(balance);
+            output::show_balance(balance);
             all_calls(balance, &mut kept);
         }
-        Opened::Refused { number, place } => {}
+        Opened::Refused { number, place: _ } => output::show_refused(number),
     }
 }

@@ -114,25 +114,25 @@ module _ (c : SplitCall) (deficit : List ℤ) where
 
 -- ---- Open
 
-module _ (kept answer : List ℕ) where
-  pub open-no-room : length answer < openValues → OpenReturns kept answer 3 answer
+module _ (kept : List ℕ) (k : ℕ) (answer : List ℕ) where
+  pub open-no-room : length answer < openValues → OpenReturns kept k answer 3 answer
   unfolding openCallVerdict
   open-no-room h =
-      let v = no-room (length answer) openValues (openVerdict kept) h in
+      let v = no-room (length answer) openValues (openVerdict kept k) h in
       record { returns = ap returned (sym v); writes = after-fail _ answer v }
 
-  module _ {a : Opened} (p : OpenContract kept a) (h : openValues ≤ length answer) where
-    pub open-done : {b : Balance} {r : ℕ} {answer′ : List ℕ} → a ≡ opened.Accepted b → r ≡ 0 → answer′ ≡ written answer 0 (balanceWords b) → OpenReturns kept answer r answer′
+  module _ {a : Opened} (p : OpenContract kept k a) (h : openValues ≤ length answer) where
+    pub open-done : {b : Balance} {r : ℕ} {answer′ : List ℕ} → a ≡ opened.Accepted b → r ≡ 0 → answer′ ≡ written answer 0 (balanceWords b) → OpenReturns kept k answer r answer′
     unfolding openTells openCallVerdict
     open-done {b} e z w =
-        let t = answered-accepted (openVerdict kept) b (openBalance kept) (ap openTells (sym e) ∙ p .answers) in
-        let v = room (length answer) openValues (openVerdict kept) h ∙ t .0 in
+        let t = answered-accepted (openVerdict kept k) b (openBalance kept k) (ap openTells (sym e) ∙ p .answers) in
+        let v = room (length answer) openValues (openVerdict kept k) h ∙ t .0 in
         record { returns = returned-pass v z; writes = after-pass answer v (w ∙ ap (λ x. written answer 0 (balanceWords x)) (t .1)) }
 
-    pub open-refused : {r number place : ℕ} → a ≡ opened.Refused number place → r ≡ number + place * 2 ^ 32 → OpenReturns kept answer r answer
+    pub open-refused : {r number place : ℕ} → a ≡ opened.Refused number place → r ≡ number + place * 2 ^ 32 → OpenReturns kept k answer r answer
     unfolding openTells openCallVerdict
     open-refused {number = number} {place = place} e z =
-        let v = room (length answer) openValues (openVerdict kept) h ∙ answered-refused (openVerdict kept) (openBalance kept) number place (ap openTells (sym e) ∙ p .answers) in
+        let v = room (length answer) openValues (openVerdict kept k) h ∙ answered-refused (openVerdict kept k) (openBalance kept k) number place (ap openTells (sym e) ∙ p .answers) in
         record { returns = returned-fail v z; writes = after-fail _ answer v }
 
 -- ---- Step

@@ -143,8 +143,8 @@ module _ (c : SplitCall) (deficit : List ℤ) where
 
 -- ---- Open
 
-pub open-numbered : (kept : List ℕ) → Numbered (openVerdict kept)
-open-numbered kept = numbered _ (open-decides kept) (open-numbers kept) refl
+pub open-numbered : (kept : List ℕ) (k : ℕ) → Numbered (openVerdict kept k)
+open-numbered kept k = numbered _ (open-decides kept k) (open-numbers kept k) refl
 
 open-tells : (a : Answered Balance) → openTells (openAnswer a) ≡ a
 unfolding openTells
@@ -155,23 +155,23 @@ balance-read : (answer : List ℕ) (b : Balance) → balanceIn (written answer 0
 unfolding written
 balance-read answer b = refl
 
-module _ (kept answer : List ℕ) (r : ℕ) (answer′ : List ℕ) where
-  pub open-own : openValues ≤ length answer → OpenReturns kept answer r answer′ → OpenContract kept (openAnswer (toldBy r (balanceIn answer′)))
+module _ (kept : List ℕ) (k : ℕ) (answer : List ℕ) (r : ℕ) (answer′ : List ℕ) where
+  pub open-own : openValues ≤ length answer → OpenReturns kept k answer r answer′ → OpenContract kept k (openAnswer (toldBy r (balanceIn answer′)))
   unfolding openCallVerdict
   open-own h q =
-      let v = room (length answer) openValues (openVerdict kept) h in
-      let b = openBalance kept in
+      let v = room (length answer) openValues (openVerdict kept k) h in
+      let b = openBalance kept k in
       record {
         answers =
             open-tells (toldBy r (balanceIn answer′))
-            ∙ told-own (openVerdict kept) r (balanceIn answer′) b (open-numbered kept) (q .returns ∙ ap returned v)
+            ∙ told-own (openVerdict kept k) r (balanceIn answer′) b (open-numbered kept k) (q .returns ∙ ap returned v)
             (λ e. ap balanceIn (q .writes ∙ after-by (written answer 0 (balanceWords b)) answer (v ∙ e)) ∙ balance-read answer b);
       }
 
-  pub open-short : length answer < openValues → OpenReturns kept answer r answer′ → (r ≡ 3) × (answer′ ≡ answer)
+  pub open-short : length answer < openValues → OpenReturns kept k answer r answer′ → (r ≡ 3) × (answer′ ≡ answer)
   unfolding openCallVerdict
   open-short h q =
-      let v = no-room (length answer) openValues (openVerdict kept) h in
+      let v = no-room (length answer) openValues (openVerdict kept k) h in
       (q .returns ∙ ap returned v, q .writes ∙ after-by _ answer v)
 
 -- ---- Step
@@ -179,7 +179,7 @@ module _ (kept answer : List ℕ) (r : ℕ) (answer′ : List ℕ) where
 pub step-numbered : (c : StepCall) → Numbered (stepVerdict c)
 step-numbered c = numbered _ (step-decides c) (step-numbers c) refl
 
-result-read : (c : StepCall) (answer : List ℕ) → resultIn (written answer 0 (repairWords (stepResult c .repair))) ≡ stepResult c
+result-read : (c : StepCall) (answer : List ℕ) → resultIn c (written answer 0 (repairWords (stepResult c .repair))) ≡ stepResult c
 unfolding written repair
 result-read c answer = refl
 
@@ -210,14 +210,14 @@ module _ (c : StepCall) (answer : List ℕ) where
       go true true v e w = (3, (ap (λ x. both x w) e, inr (inr refl)))
 
   module _ (r : ℕ) (kept : List ℕ) (scratch : List ℤ) (answer′ : List ℕ) where
-    pub step-own : stepValues ≤ length answer → StepReturns c answer r kept scratch answer′ → StepContract c (stepAnswer (toldBy r (resultIn answer′))) kept scratch
+    pub step-own : stepValues ≤ length answer → StepReturns c answer r kept scratch answer′ → StepContract c (stepAnswer (toldBy r (resultIn c answer′))) kept scratch
     step-own h q =
         let v = step-long h in
         record {
           answers =
-              answer-tells (toldBy r (resultIn answer′))
-              ∙ told-own (stepVerdict c) r (resultIn answer′) (stepResult c) (step-numbered c) (q .returns ∙ ap returned v)
-              (λ e. ap resultIn (q .writes ∙ after-by (written answer 0 (repairWords (stepResult c .repair))) answer (v ∙ e)) ∙ result-read c answer);
+              answer-tells (toldBy r (resultIn c answer′))
+              ∙ told-own (stepVerdict c) r (resultIn c answer′) (stepResult c) (step-numbered c) (q .returns ∙ ap returned v)
+              (λ e. ap (resultIn c) (q .writes ∙ after-by (written answer 0 (repairWords (stepResult c .repair))) answer (v ∙ e)) ∙ result-read c answer);
           leaves = subst (λ w. Leaves w (repairCall c) kept scratch) v (q .leaves);
         }
 

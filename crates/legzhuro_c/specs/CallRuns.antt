@@ -24,7 +24,7 @@ abbrev pub eventOf : CallEvent → Event
 eventOf e =
     record {
       call = e .call;
-      answer = stepAnswer (toldBy (e .returned) (resultIn (e .answer′)));
+      answer = stepAnswer (toldBy (e .returned) (resultIn (e .call) (e .answer′)));
       kept = e .kept;
       scratch = e .scratch;
     }

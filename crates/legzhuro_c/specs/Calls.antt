@@ -79,19 +79,19 @@ pub record SplitReturns (c : SplitCall) (deficit : List ℤ) (r : ℕ) (masses d
   pub writes : masses ≡ after (splitCallVerdict c deficit) (splitMasses c) (c .masses)
   pub tells : deficit′ ≡ after (splitCallVerdict c deficit) (written deficit 0 (splitDeficit c ∷ [])) deficit
 
--- Open: the balance goes to the first entry of the answer
+-- Open, at the scale k: the balance goes to the first two entries of the answer
 abbrev pub openValues : ℕ
-openValues = 1
+openValues = 2
 
-unfoldable pub openCallVerdict : List ℕ → List ℕ → Checked
-openCallVerdict kept answer = first (checkLong (length answer) openValues ∷ openVerdict kept ∷ [])
+unfoldable pub openCallVerdict : List ℕ → ℕ → List ℕ → Checked
+openCallVerdict kept k answer = first (checkLong (length answer) openValues ∷ openVerdict kept k ∷ [])
 
 abbrev pub balanceWords : Balance → List ℕ
-balanceWords b = b .total ∷ []
+balanceWords b = b .total ∷ b .scale ∷ []
 
-pub record OpenReturns (kept answer : List ℕ) (r : ℕ) (answer′ : List ℕ) : Type 0 where
-  pub returns : r ≡ returned (openCallVerdict kept answer)
-  pub writes : answer′ ≡ after (openCallVerdict kept answer) (written answer 0 (balanceWords (openBalance kept))) answer
+pub record OpenReturns (kept : List ℕ) (k : ℕ) (answer : List ℕ) (r : ℕ) (answer′ : List ℕ) : Type 0 where
+  pub returns : r ≡ returned (openCallVerdict kept k answer)
+  pub writes : answer′ ≡ after (openCallVerdict kept k answer) (written answer 0 (balanceWords (openBalance kept k))) answer
 
 -- Step: what it tells goes to the first entries of the answer, which counts under 3, after 1 and 2
 abbrev pub stepValues : ℕ
@@ -137,13 +137,14 @@ SingleReturns mass k = ValueReturns mass k (exportSingle mass k)
 -- ---- the values in the lent lists, from which the operations' own answers are read off
 
 abbrev pub balanceIn : List ℕ → Balance
-balanceIn answer = record { total = at answer 0 }
+balanceIn answer = record { total = at answer 0; scale = at answer 1 }
 
 abbrev pub repairIn : List ℕ → Repair
 repairIn answer = record { outcome = at answer 0; total = at answer 1; change = at answer 2; shared = at answer 3 }
 
-abbrev pub resultIn : List ℕ → StepResult
-resultIn answer = record { repair = repairIn answer; balance = record { total = at answer 1 } }
+-- of a call of Step: the new balance is the total in the list, at the scale of the balance that the call was given
+abbrev pub resultIn : StepCall → List ℕ → StepResult
+resultIn c answer = record { repair = repairIn answer; balance = record { total = at answer 1; scale = c .balance .scale } }
 
 abbrev pub unitsIn : List ℤ → CellUnits
 unitsIn units =

@@ -76,26 +76,29 @@ pub extern "C" fn legzhuro_split(
     }
 }
 
-// Open: answer[0] is the total.
+// Open: answer[0] is the total, answer[1] the scale.
 #[no_mangle]
-pub extern "C" fn legzhuro_open(kept: &[u32], answer: &mut [u64]) -> u64
-    ensures { λ r. ⌜ OpenReturns (now (kept .entry)) (now (answer .entry)) r (now (answer .exit)) ⌝ }
+pub extern "C" fn legzhuro_open(kept: &[u32], scale: u32, answer: &mut [u64]) -> u64
+    ensures { λ r. ⌜ OpenReturns (now (kept .entry)) scale (now (answer .entry)) r (now (answer .exit)) ⌝ }
 {
-    if answer.len() < 1 {
+    if answer.len() < 2 {
         return 3;
     }
-    match kept::open(kept) {
+    match kept::open(kept, scale) {
         Opened::Accepted(balance) => returns::put_balance(balance, answer),
         Opened::Refused { number, place } => returns::refusal(number, place),
     }
 }
 
-// Step: answer[0] is the outcome, answer[1] the new total, answer[2] the change, answer[3] what was shared out.
+// Step, with the balance in two numbers: answer[0] is the outcome, answer[1] the new total, answer[2] the change, answer[3] what was shared
+// out. The new balance is answer[1] at the same scale.
 #[no_mangle]
 pub extern "C" fn legzhuro_step(
     total: u32,
+    total_scale: u32,
     kept: &mut [u32],
     source: i32,
+    scale: u32,
     targets: &[i32],
     lows: &[u32],
     highs: &[u32],
@@ -108,7 +111,7 @@ pub extern "C" fn legzhuro_step(
 ) -> u64
     ensures { λ r.
         ⌜ StepReturns
-        (stepCall (record { total = total }) (now (kept .entry)) source
+        (stepCall (record { total = total; scale = «total_scale» }) (now (kept .entry)) source scale
         (lists (now (targets .entry)) (now (lows .entry)) (now (highs .entry)) (now («safe_lows» .entry)) (now («safe_highs» .entry))
         (now (weights .entry)) (now (parents .entry)))
         (now (scratch .entry)))
@@ -119,9 +122,13 @@ pub extern "C" fn legzhuro_step(
         return returns::refusal(number, place);
     }
     let stepped = kept::step(
-        Balance { total },
+        Balance {
+            total,
+            scale: total_scale,
+        },
         kept,
         source,
+        scale,
         targets,
         lows,
         highs,

@@ -67,6 +67,7 @@ pub fn put_balance(balance: Balance, answer: &mut [u64]) -> u64
     ensures { λ r. ⌜ (r ≡ 0) × (now (answer .exit) ≡ written (now (answer .entry)) 0 (balanceWords balance)) ⌝ }
 {
     answer[0] = balance.total as u64;
+    answer[1] = balance.scale as u64;
     0
 }
 

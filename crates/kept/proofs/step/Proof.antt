@@ -11,7 +11,7 @@ use Rattle.kept.proofs.step.Statement.{statement}
 use Rattle.kept.proofs.step.Tie as tie
 
 abbrev givenAt : tie.Start → ℤ → StepCall
-givenAt c source = stepCall (c .args .balance) (c .args .kept .now) source (lists (c .args .targets .now) (c .args .lows .now) (c .args .highs .now) (c .args .safe-lows .now) (c .args .safe-highs .now) (c .args .weights .now) (c .args .parents .now)) (c .args .scratch .now)
+givenAt c source = stepCall (c .args .balance) (c .args .kept .now) source (c .args .scale) (lists (c .args .targets .now) (c .args .lows .now) (c .args .highs .now) (c .args .safe-lows .now) (c .args .safe-highs .now) (c .args .weights .now) (c .args .parents .now)) (c .args .scratch .now)
 
 -- the source as it is handed on
 source-is : (c : tie.Start) → toZ w32 (ofZ w32 (c .args .source)) ≡ c .args .source
@@ -31,7 +31,7 @@ same-length-2 c = search needs
 
 returns : tie.Need-returns
 returns c = let s = c .before .before .before .before .before .before .before .before .before .before .before .before .before .before .before .before in
-    subst (λ (z : ℤ). StepContract (givenAt s z) (c .before .before .before .step-by .result) (c .before .before .before .step-by .last .1 .1 .0) (c .before .before .before .step-by .last .1 .1 .1 .1 .1 .1 .1 .1 .1 .1 .1 .0)) (source-is s) (c .before .before .before .step-by .ensures)
+    subst (λ (z : ℤ). StepContract (givenAt s z) (c .before .before .before .step-by .result) (c .before .before .before .step-by .last .1 .1 .0) (c .before .before .before .step-by .last .1 .1 .1 .1 .1 .1 .1 .1 .1 .1 .1 .1 .0)) (source-is s) (c .before .before .before .step-by .ensures)
 
 pub step-spec : {M : Type 1} → statement M
 step-spec =

@@ -6,7 +6,7 @@ use Rattle.legzhuro_c.proofs.legzhuro_open.Statement.{statement}
 use Rattle.legzhuro_c.proofs.legzhuro_open.Tie as tie
 
 returns : tie.Need-returns
-returns c = let a = c .before .before .before .args in open-no-room (a .kept .now) (a .answer .now) (c .if1 .taken)
+returns c = let a = c .before .before .before .args in open-no-room (a .kept .now) (a .scale) (a .answer .now) (c .if1 .taken)
 
 open-requires : tie.Need-open-requires
 open-requires c κs = search needs
@@ -30,12 +30,12 @@ returns-2 : tie.Need-returns-2
 returns-2 c =
     let a = c .before .before .before .before .before .before .before .before .before .before .before .args in
     let put = c .before .before .put-balance .ensures in
-    open-done (a .kept .now) (a .answer .now) (c .before .before .before .before .before .before .before .«open» .ensures) (omega (arith, c .before .before .before .before .before .before .before .before .if1 .left)) (c .before .before .before .before .before .balance .given .1) (put .0) (put .1)
+    open-done (a .kept .now) (a .scale) (a .answer .now) (c .before .before .before .before .before .before .before .«open» .ensures) (omega (arith, c .before .before .before .before .before .before .before .before .if1 .left)) (c .before .before .before .before .before .balance .given .1) (put .0) (put .1)
 
 returns-3 : tie.Need-returns-3
 returns-3 c =
     let a = c .before .before .before .before .before .before .before .before .args in
-    open-refused (a .kept .now) (a .answer .now) (c .before .before .before .before .«open» .ensures) (omega (arith, c .before .before .before .before .before .if1 .left)) (c .before .before .number .given .1) (c .refusal .ensures)
+    open-refused (a .kept .now) (a .scale) (a .answer .now) (c .before .before .before .before .«open» .ensures) (omega (arith, c .before .before .before .before .before .if1 .left)) (c .before .before .number .given .1) (c .refusal .ensures)
 
 pub legzhuro-open-spec : {M : Type 1} → statement M
 legzhuro-open-spec =

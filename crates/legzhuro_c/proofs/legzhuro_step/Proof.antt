@@ -12,7 +12,7 @@ use Rattle.legzhuro_c.proofs.legzhuro_step.Statement.{statement}
 use Rattle.legzhuro_c.proofs.legzhuro_step.Tie as tie
 
 abbrev givenAt : tie.Start → ℤ → StepCall
-givenAt c source = stepCall (record { total = c .args .total }) (c .args .kept .now) source (lists (c .args .targets .now) (c .args .lows .now) (c .args .highs .now) (c .args .safe-lows .now) (c .args .safe-highs .now) (c .args .weights .now) (c .args .parents .now)) (c .args .scratch .now)
+givenAt c source = stepCall (record { total = c .args .total; scale = c .args .total-scale }) (c .args .kept .now) source (c .args .scale) (lists (c .args .targets .now) (c .args .lows .now) (c .args .highs .now) (c .args .safe-lows .now) (c .args .safe-highs .now) (c .args .weights .now) (c .args .parents .now)) (c .args .scratch .now)
 
 abbrev given : tie.Start → StepCall
 given c = givenAt c (c .args .source)
@@ -22,9 +22,9 @@ shaped : (c : tie.After-enum-told) → stepShape (given (c .before .before .befo
 shaped c = sym (c .before .before .step-shape .ensures) ∙ c .enum-told .given .1
 
 -- what Step promises, of the source as it was given
-promised : (c : tie.After-step) → StepContract (given (c .before .before .before .before .before .before .before .before .before .before .before .before .before .before)) (c .step .result) (c .step .last .1 .0) (c .step .last .1 .1 .1 .1 .1 .1 .1 .1 .1 .1 .0)
+promised : (c : tie.After-step) → StepContract (given (c .before .before .before .before .before .before .before .before .before .before .before .before .before .before)) (c .step .result) (c .step .last .1 .0) (c .step .last .1 .1 .1 .1 .1 .1 .1 .1 .1 .1 .1 .0)
 promised c = let s = c .before .before .before .before .before .before .before .before .before .before .before .before .before .before in
-    subst (λ (z : ℤ). StepContract (givenAt s z) (c .step .result) (c .step .last .1 .0) (c .step .last .1 .1 .1 .1 .1 .1 .1 .1 .1 .1 .0)) (toZ-ofZ w32 (s .args .source) (s .fits .source)) (c .step .ensures)
+    subst (λ (z : ℤ). StepContract (givenAt s z) (c .step .result) (c .step .last .1 .0) (c .step .last .1 .1 .1 .1 .1 .1 .1 .1 .1 .1 .1 .0)) (toZ-ofZ w32 (s .args .source) (s .fits .source)) (c .step .ensures)
 
 step-shape-requires : tie.Need-step-shape-requires
 step-shape-requires c κs = search needs

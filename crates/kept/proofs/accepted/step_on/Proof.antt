@@ -14,7 +14,7 @@ use Rattle.kept.proofs.accepted.step_on.Statement.{statement}
 use Rattle.kept.proofs.accepted.step_on.Tie as tie
 
 abbrev givenAt : tie.Start → ℤ → StepCall
-givenAt c source = stepCall (c .args .balance) (c .args .kept .now) source (lists (c .args .targets .now) (c .args .lows .now) (c .args .highs .now) (c .args .safe-lows .now) (c .args .safe-highs .now) (c .args .weights .now) (c .args .parents .now)) (c .args .scratch .now)
+givenAt c source = stepCall (c .args .balance) (c .args .kept .now) source (c .args .balance .scale) (lists (c .args .targets .now) (c .args .lows .now) (c .args .highs .now) (c .args .safe-lows .now) (c .args .safe-highs .now) (c .args .weights .now) (c .args .parents .now)) (c .args .scratch .now)
 
 abbrev given : tie.Start → StepCall
 given c = givenAt c (c .args .source)

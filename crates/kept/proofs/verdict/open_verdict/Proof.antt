@@ -1,37 +1,60 @@
--- `kept::verdict::open_verdict` meets its contract: 1, then 13.
-use mathlib.Core.Path.{_≡_, sym, _∙_, ap}
+-- `kept::verdict::open_verdict` meets its contract: 1, 9, then 13.
+use mathlib.Core.Path.{_≡_, sym, _∙_, ap, ap₂}
 use native.Mathlib.Omega.{arith}
 use lib.IntN.{ℤ, pos}
 use lib.ListN.{length}
 use mir.Syntax.{w64}
 use mir.Val.{toZ, ofZ}
 use mir.ValLaws.{toZ-pos}
-use Rattle.numbers.specs.Checks.{checkCount}
+use Rattle.numbers.specs.Checks.{both, checkCount, checkScale}
+use Rattle.numbers.specs.declared.Checked.{Checked}
 use Rattle.numbers.specs.declared.Checked.the-variants.{Pass}
-use Rattle.numbers.proofs.CheckLaws.{on, stop, last, count-decides}
+use Rattle.numbers.specs.Lists.{sum}
+use Rattle.numbers.proofs.CheckLaws.{last, both-first, count-decides}
 use Rattle.kept_spec.specs.Open.{checkTotal, openVerdict}
+use Rattle.kept.proofs.VerdictLaws.{on-both, stop-both}
 use borrow.Author.Needs.{needs}
 use Rattle.kept.proofs.verdict.open_verdict.Statement.{statement}
 use Rattle.kept.proofs.verdict.open_verdict.Tie as tie
 
-counted : (c : tie.After-enum-told) → checkCount (length (c .before .before .before .before .args .kept .now)) ≡ Pass
-counted c = sym (c .before .before .check-count .ensures) ∙ c .enum-told .given .1
+abbrev count : tie.Start → Checked
+count c = checkCount (length (c .args .kept .now))
+
+abbrev scale : tie.Start → Checked
+scale c = checkScale (c .args .scale)
+
+abbrev total : tie.Start → Checked
+total c = checkTotal (pos (sum (c .args .kept .now)))
+
+inputs-are : (c : tie.After-then) → c .then .result ≡ both (count (c .before .before .before .before)) (scale (c .before .before .before .before))
+inputs-are c = c .then .ensures ∙ ap₂ both (c .before .before .check-count .ensures) (c .before .check-scale .ensures)
+
+passed : (c : tie.After-enum-told) → both (count (c .before .before .before .before .before .before)) (scale (c .before .before .before .before .before .before)) ≡ Pass
+passed c = sym (inputs-are (c .before .before)) ∙ c .enum-told .given .1
 
 check-count-requires : tie.Need-check-count-requires
 check-count-requires c κs = search needs
 
-enum-known-count : tie.Need-enum-known-count
-enum-known-count c = search needs
+check-scale-requires : tie.Need-check-scale-requires
+check-scale-requires c κs = search needs
+
+then-requires : tie.Need-then-requires
+then-requires c κs = search needs
+
+enum-known-inputs : tie.Need-enum-known-inputs
+enum-known-inputs c = search needs
 
 returns : tie.Need-returns
 unfolding openVerdict
-returns c = stop _ (sym (c .before .before .before .check-count .ensures) ∙ c .before .count .given .1)
+returns c =
+    let s = c .before .before .before .before .before .before .before in
+    stop-both (count s) (scale s) (both (total s) Pass) (sym (inputs-are (c .before .before .before)) ∙ c .before .inputs .given .1)
 
 enum-told : tie.Need-enum-told
 enum-told c = search needs
 
 sum-of-requires : tie.Need-sum-of-requires
-sum-of-requires c κs = let n = count-decides _ .passes .0 (counted c) in omega arith
+sum-of-requires c κs = let n = count-decides _ .passes .0 (both-first (count (c .before .before .before .before .before .before)) (scale (c .before .before .before .before .before .before)) (passed c)) in omega arith
 
 signed-requires : tie.Need-signed-requires
 signed-requires c κs = search needs
@@ -41,8 +64,10 @@ check-total-requires c κs = search needs
 
 returns-2 : tie.Need-returns-2
 unfolding openVerdict
-returns-2 c = on (counted (c .before .before .before))
-    (last _
+returns-2 c =
+    let s = c .before .before .before .before .before .before .before .before .before in
+    on-both (count s) (scale s) (both (total s) Pass) (passed (c .before .before .before))
+    (last (total s)
     (c .check-total .ensures
     ∙ ap checkTotal (ap (λ (z : ℤ). toZ w64 (ofZ w64 z)) (c .before .signed .ensures) ∙ toZ-pos w64 (c .before .before .sum-of .result) (omega arith) ∙ ap pos (c .before .before .sum-of .ensures .0))))
 
@@ -51,7 +76,9 @@ open-verdict-spec =
     tie.close
     (tie.spec
     check-count-requires
-    enum-known-count
+    check-scale-requires
+    then-requires
+    enum-known-inputs
     returns
     enum-told
     sum-of-requires

@@ -1,11 +1,14 @@
--- `kept::verdict::step_verdict` meets its contract: each check in its order; those after 1 to 3 count on the lengths, and 8 on 13.
-use mathlib.Core.Path.{_≡_, sym, _∙_, ap}
+-- `kept::verdict::step_verdict` meets its contract: each check in its order; those after 17 count on the lengths, and 8 on 13.
+use mathlib.Core.Path.{_≡_, sym, _∙_, ap, ap₂}
+use mathlib.Core.List.{[], _∷_}
 use native.Mathlib.Omega.{arith}
 use lib.ListN.{length}
 use mir.Syntax.{w64}
 use mir.Val.{toZ, ofZ}
+use Rattle.numbers.specs.declared.Checked.{Checked}
 use Rattle.numbers.specs.declared.Checked.the-variants.{Pass}
 use Rattle.numbers.specs.Signed.{over}
+use Rattle.numbers.specs.Checks.{both, first}
 use Rattle.numbers.proofs.CheckLaws.{on, stop, last}
 use Rattle.qlt_spec.specs.Field.{lists}
 use Rattle.qlt_spec.specs.Checks.{shapeOf, checkValues, checkReach}
@@ -13,8 +16,9 @@ use Rattle.qlt_spec.specs.Operation.{ShapeFits}
 use Rattle.qlt_spec.proofs.CheckLaws.{shape-fits}
 use Rattle.field_checks.proofs.CodeLaws.{sized}
 use Rattle.kept_spec.specs.Open.{checkTotal}
-use Rattle.kept_spec.specs.Step.{StepCall, stepCall, next, checkKept, stepVerdict}
+use Rattle.kept_spec.specs.Step.{StepCall, stepCall, next, newTotal, checkSameScale, checkKept, stepVerdict}
 use Rattle.kept_spec.proofs.OpenLaws.{total-decides}
+use Rattle.kept.proofs.VerdictLaws.{on-both, stop-both}
 use Rattle.kept.proofs.TotalLaws.{next-read}
 use borrow.Author.Needs.{needs}
 use Rattle.kept.proofs.verdict.step_verdict.Statement.{statement}
@@ -23,11 +27,22 @@ use Rattle.kept.proofs.verdict.step_verdict.Tie as tie
 abbrev given : tie.Start → StepCall
 given c =
     let a = c .args in
-    stepCall (a .balance) (a .kept .now) (a .source)
+    stepCall (a .balance) (a .kept .now) (a .source) (a .scale)
     (lists (a .targets .now) (a .lows .now) (a .highs .now) (a .safe-lows .now) (a .safe-highs .now) (a .weights .now) (a .parents .now)) (a .scratch .now)
 
 abbrev Shaped : StepCall → Type 0
 Shaped c = shapeOf (length (c .kept)) (c .lists) (length (c .scratch)) ≡ Pass
+
+-- 17, and then 4 to 7
+abbrev same : StepCall → Checked
+same c = checkSameScale (c .scale) (c .balance .scale)
+
+abbrev values : StepCall → Checked
+values c = checkValues (c .lists)
+
+-- 12, 13 and 8
+abbrev totals : StepCall → Checked
+totals c = first (checkKept (c .kept) (c .balance .total) ∷ checkTotal (next c) ∷ checkReach (c .lists .safeLows) (c .lists .safeHighs) (newTotal c) ∷ [])
 
 -- what each check has shown
 shaped : (c : tie.After-enum-told) → Shaped (given (c .before .before .before .before .before .before .before .before .before .before))
@@ -36,20 +51,23 @@ shaped c = sym (c .before .before .check-shape .ensures) ∙ c .enum-told .given
 lengths : (c : tie.After-enum-told) → ShapeFits (given (c .before .before .before .before .before .before .before .before .before .before) .lists) (length (c .before .before .before .before .before .before .before .before .before .before .args .kept .now)) (length (c .before .before .before .before .before .before .before .before .before .before .args .scratch .now))
 lengths c = shape-fits (given (c .before .before .before .before .before .before .before .before .before .before) .lists) _ _ .0 (shaped c)
 
-valued : (c : tie.After-enum-told2) → checkValues (given (c .before .before .before .before .before .before .before .before .before .before .before .before .before) .lists) ≡ Pass
-valued c = sym (c .before .before .check-values .ensures) ∙ c .enum-told2 .given .1
+inputs-are : (c : tie.After-then) → c .then .result ≡ both (same (given (c .before .before .before .before .before .before .before .before .before .before .before .before .before))) (values (given (c .before .before .before .before .before .before .before .before .before .before .before .before .before)))
+inputs-are c = c .then .ensures ∙ ap₂ both (c .before .before .check-same-scale .ensures) (c .before .check-values .ensures)
 
-adds : (c : tie.After-enum-told3) → checkKept (c .before .before .before .before .before .before .before .before .before .before .before .before .before .before .before .before .args .kept .now) (c .before .before .before .before .before .before .before .before .before .before .before .before .before .before .before .before .args .balance .total) ≡ Pass
+valued : (c : tie.After-enum-told2) → both (same (given (c .before .before .before .before .before .before .before .before .before .before .before .before .before .before .before))) (values (given (c .before .before .before .before .before .before .before .before .before .before .before .before .before .before .before))) ≡ Pass
+valued c = sym (inputs-are (c .before .before)) ∙ c .enum-told2 .given .1
+
+adds : (c : tie.After-enum-told3) → checkKept (c .before .before .before .before .before .before .before .before .before .before .before .before .before .before .before .before .before .before .args .kept .now) (c .before .before .before .before .before .before .before .before .before .before .before .before .before .before .before .before .before .before .args .balance .total) ≡ Pass
 adds c = sym (c .before .before .check-kept .ensures) ∙ c .enum-told3 .given .1
 
 -- the new total, as it is handed on
-next-is : (c : tie.After-add-source) → toZ w64 (ofZ w64 (c .add-source .result)) ≡ next (given (c .before .before .before .before .before .before .before .before .before .before .before .before .before .before .before .before .before))
-next-is c = let s = c .before .before .before .before .before .before .before .before .before .before .before .before .before .before .before .before .before in next-read (s .args .balance .total) (s .args .source) _ (omega arith) (s .fits .source) (c .add-source .ensures)
+next-is : (c : tie.After-add-source) → toZ w64 (ofZ w64 (c .add-source .result)) ≡ next (given (c .before .before .before .before .before .before .before .before .before .before .before .before .before .before .before .before .before .before .before))
+next-is c = let s = c .before .before .before .before .before .before .before .before .before .before .before .before .before .before .before .before .before .before .before in next-read (s .args .balance .total) (s .args .source) _ (omega arith) (s .fits .source) (c .add-source .ensures)
 
-small-is : (c : tie.After-check-total) → c .check-total .result ≡ checkTotal (next (given (c .before .before .before .before .before .before .before .before .before .before .before .before .before .before .before .before .before .before)))
+small-is : (c : tie.After-check-total) → c .check-total .result ≡ checkTotal (next (given (c .before .before .before .before .before .before .before .before .before .before .before .before .before .before .before .before .before .before .before .before)))
 small-is c = c .check-total .ensures ∙ ap checkTotal (next-is (c .before))
 
-small : (c : tie.After-enum-told4) → checkTotal (next (given (c .before .before .before .before .before .before .before .before .before .before .before .before .before .before .before .before .before .before .before .before))) ≡ Pass
+small : (c : tie.After-enum-told4) → checkTotal (next (given (c .before .before .before .before .before .before .before .before .before .before .before .before .before .before .before .before .before .before .before .before .before .before))) ≡ Pass
 small c = sym (small-is (c .before .before)) ∙ c .enum-told4 .given .1
 
 check-shape-requires : tie.Need-check-shape-requires
@@ -65,28 +83,39 @@ returns c = stop _ (sym (c .before .before .before .check-shape .ensures) ∙ c 
 enum-told : tie.Need-enum-told
 enum-told c = search needs
 
-check-values-requires : tie.Need-check-values-requires
-check-values-requires c κs = sized (given (c .before .before .before .before .before .before .before .before .before .before) .lists) _ _ (shaped c)
+check-same-scale-requires : tie.Need-check-same-scale-requires
+check-same-scale-requires c κs = search needs
 
-enum-known-values : tie.Need-enum-known-values
-enum-known-values c = search needs
+check-values-requires : tie.Need-check-values-requires
+check-values-requires c κs = sized (given (c .before .before .before .before .before .before .before .before .before .before .before) .lists) _ _ (shaped (c .before))
+
+then-requires : tie.Need-then-requires
+then-requires c κs = search needs
+
+enum-known-inputs : tie.Need-enum-known-inputs
+enum-known-inputs c = search needs
 
 returns-2 : tie.Need-returns-2
 unfolding stepVerdict
-returns-2 c = on (shaped (c .before .before .before .before)) (stop _ (sym (c .before .before .before .check-values .ensures) ∙ c .before .values .given .1))
+returns-2 c =
+    let g = given (c .before .before .before .before .before .before .before .before .before .before .before .before .before .before .before .before) in
+    on (shaped (c .before .before .before .before .before .before)) (stop-both (same g) (values g) (totals g) (sym (inputs-are (c .before .before .before)) ∙ c .before .inputs .given .1))
 
 enum-told-2 : tie.Need-enum-told-2
 enum-told-2 c = search needs
 
 check-kept-requires : tie.Need-check-kept-requires
-check-kept-requires c κs = let f = lengths (c .before .before .before) in omega (arith, f .few, f .lengths .masses)
+check-kept-requires c κs = let f = lengths (c .before .before .before .before .before) in omega (arith, f .few, f .lengths .masses)
 
 enum-known-adds-up : tie.Need-enum-known-adds-up
 enum-known-adds-up c = search needs
 
 returns-3 : tie.Need-returns-3
 unfolding stepVerdict
-returns-3 c = on (shaped (c .before .before .before .before .before .before .before)) (on (valued (c .before .before .before .before)) (stop _ (sym (c .before .before .before .check-kept .ensures) ∙ c .before .adds-up .given .1)))
+returns-3 c =
+    let g = given (c .before .before .before .before .before .before .before .before .before .before .before .before .before .before .before .before .before .before .before) in
+    on (shaped (c .before .before .before .before .before .before .before .before .before))
+    (on-both (same g) (values g) (totals g) (valued (c .before .before .before .before)) (stop _ (sym (c .before .before .before .check-kept .ensures) ∙ c .before .adds-up .given .1)))
 
 enum-told-3 : tie.Need-enum-told-3
 enum-told-3 c = search needs
@@ -103,8 +132,9 @@ enum-known-small c = search needs
 returns-4 : tie.Need-returns-4
 unfolding stepVerdict
 returns-4 c =
-    on (shaped (c .before .before .before .before .before .before .before .before .before .before .before))
-    (on (valued (c .before .before .before .before .before .before .before .before))
+    let g = given (c .before .before .before .before .before .before .before .before .before .before .before .before .before .before .before .before .before .before .before .before .before .before .before) in
+    on (shaped (c .before .before .before .before .before .before .before .before .before .before .before .before .before))
+    (on-both (same g) (values g) (totals g) (valued (c .before .before .before .before .before .before .before .before))
     (on (adds (c .before .before .before .before .before)) (stop _ (sym (small-is (c .before .before .before)) ∙ c .before .small .given .1))))
 
 enum-told-4 : tie.Need-enum-told-4
@@ -115,19 +145,20 @@ whole-requires c κs = rw (next-is (c .before .before .before)) (total-decides _
 
 check-reach-requires : tie.Need-check-reach-requires
 check-reach-requires c κs =
-    let f = lengths (c .before .before .before .before .before .before .before .before .before .before .before) in
+    let f = lengths (c .before .before .before .before .before .before .before .before .before .before .before .before .before) in
     (omega (arith, f .few, f .lengths .safeLows), omega (arith, f .few, f .lengths .safeHighs))
 
 returns-5 : tie.Need-returns-5
 unfolding stepVerdict
 returns-5 c =
-    on (shaped (c .before .before .before .before .before .before .before .before .before .before .before .before))
-    (on (valued (c .before .before .before .before .before .before .before .before .before))
+    let g = given (c .before .before .before .before .before .before .before .before .before .before .before .before .before .before .before .before .before .before .before .before .before .before .before .before) in
+    on (shaped (c .before .before .before .before .before .before .before .before .before .before .before .before .before .before))
+    (on-both (same g) (values g) (totals g) (valued (c .before .before .before .before .before .before .before .before .before))
     (on (adds (c .before .before .before .before .before .before))
     (on (small (c .before .before))
     (last _
     (c .check-reach .ensures
-    ∙ ap (checkReach (c .before .before .before .before .before .before .before .before .before .before .before .before .before .before .before .before .before .before .before .before .before .before .args .safe-lows .now) (c .before .before .before .before .before .before .before .before .before .before .before .before .before .before .before .before .before .before .before .before .before .before .args .safe-highs .now)) (c .before .whole .ensures ∙ ap over (next-is (c .before .before .before .before .before))))))))
+    ∙ ap (checkReach (g .lists .safeLows) (g .lists .safeHighs)) (c .before .whole .ensures ∙ ap over (next-is (c .before .before .before .before .before))))))))
 
 pub step-verdict-spec : {M : Type 1} → statement M
 step-verdict-spec = tie.close (tie.spec
@@ -135,8 +166,10 @@ step-verdict-spec = tie.close (tie.spec
     enum-known-shape
     returns
     enum-told
+    check-same-scale-requires
     check-values-requires
-    enum-known-values
+    then-requires
+    enum-known-inputs
     returns-2
     enum-told-2
     check-kept-requires

@@ -11,13 +11,13 @@ use Rattle.qlt_spec.specs.Operation.{RepairContract}
 use Rattle.kept_spec.specs.Step.{StepCall, stepCall, repairCall, StepFits, stepResult, stepTells}
 use Rattle.kept_spec.proofs.StepLaws.{step-accepts}
 use Rattle.qlt_spec.proofs.OperationLaws.{contract-refused}
-use Rattle.kept.proofs.TotalLaws.{step-done}
+use Rattle.kept.proofs.TotalLaws.{fits-scale, step-done}
 use borrow.Author.Needs.{needs}
 use Rattle.kept.proofs.work.step_by.Statement.{statement}
 use Rattle.kept.proofs.work.step_by.Tie as tie
 
 abbrev givenAt : tie.Start → ℤ → StepCall
-givenAt c source = stepCall (c .args .balance) (c .args .kept .now) source (lists (c .args .targets .now) (c .args .lows .now) (c .args .highs .now) (c .args .safe-lows .now) (c .args .safe-highs .now) (c .args .weights .now) (c .args .parents .now)) (c .args .scratch .now)
+givenAt c source = stepCall (c .args .balance) (c .args .kept .now) source (c .args .scale) (lists (c .args .targets .now) (c .args .lows .now) (c .args .highs .now) (c .args .safe-lows .now) (c .args .safe-highs .now) (c .args .weights .now) (c .args .parents .now)) (c .args .scratch .now)
 
 abbrev given : tie.Start → StepCall
 given c = givenAt c (c .args .source)
@@ -39,7 +39,7 @@ enum-told c = search needs
 
 step-on-requires : tie.Need-step-on-requires
 step-on-requires c κs = let s = c .before .before .before .before .before .before .before .before .before .before .before in
-    subst (λ (z : ℤ). StepFits (givenAt s z)) (sym (source-is s)) (step-accepts (given s) .0 (sym (s .pre) ∙ c .before .before .enum-told .given .1))
+    fits-scale (givenAt s (toZ w32 (ofZ w32 (s .args .source)))) (subst (λ (z : ℤ). StepFits (givenAt s z)) (sym (source-is s)) (step-accepts (given s) .0 (sym (s .pre) ∙ c .before .before .enum-told .given .1)))
 
 same-length : tie.Need-same-length
 same-length c = search needs

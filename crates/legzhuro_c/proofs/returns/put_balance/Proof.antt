@@ -1,5 +1,7 @@
--- `legzhuro_c::returns::put_balance` meets its contract: one store is a written part.
+-- `legzhuro_c::returns::put_balance` meets its contract: two stores in a row are one written part.
 use mathlib.Core.Path.{refl}
+use native.Mathlib.Omega.{arith}
+use lib.ListN.{length-set}
 use Rattle.numbers.proofs.PartLaws.{sets-written}
 use Rattle.legzhuro_c.specs.Calls.{balanceWords}
 use borrow.Author.Needs.{needs}
@@ -12,11 +14,17 @@ cast-answer c = search needs
 slice-write-answer : tie.Need-slice-write-answer
 slice-write-answer c = search needs
 
+cast-answer-2 : tie.Need-cast-answer-2
+cast-answer-2 c = search needs
+
+slice-write-answer-2 : tie.Need-slice-write-answer-2
+slice-write-answer-2 c = simp length-set (omega arith)
+
 same-length : tie.Need-same-length
 same-length c = search needs
 
 returns : tie.Need-returns
-returns c = let s = c .before in (refl, sets-written (balanceWords (s .args .balance)) (s .args .answer .now) 0 (s .pre))
+returns c = let s = c .before .before in (refl, sets-written (balanceWords (s .args .balance)) (s .args .answer .now) 0 (s .pre))
 
 pub put-balance-spec : {M : Type 1} → statement M
-put-balance-spec = tie.close (tie.spec cast-answer slice-write-answer same-length returns)
+put-balance-spec = tie.close (tie.spec cast-answer slice-write-answer cast-answer-2 slice-write-answer-2 same-length returns)
