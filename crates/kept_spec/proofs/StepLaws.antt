@@ -50,12 +50,15 @@ module _ (c : StepCall) where
   abbrev s : ℕ
   s = length (c .scratch)
 
-  -- 17
-  abbrev same : Checked
+  -- 17, and what it means
+  abbrev pub same : Checked
   same = checkSameScale (c .scale) (c .balance .scale)
 
+  abbrev SameScale : Type 0
+  SameScale = (c .scale ≤ 30) × (c .scale ≡ c .balance .scale)
+
   -- 12, 13 and 8
-  abbrev totals : Checked
+  abbrev pub totals : Checked
   totals = first (checkKept (c .kept) (c .balance .total) ∷ checkTotal (next c) ∷ checkReach (c .lists .safeLows) (c .lists .safeHighs) (newTotal c) ∷ [])
 
   abbrev totalRules : List Rule
@@ -77,7 +80,7 @@ module _ (c : StepCall) where
   pub step-refuses : (number place : ℕ) → (stepVerdict c ≡ Fail number place) ↔ Broken (stepRules c) number place
   step-refuses = step-decides .fails
 
-  totals-fit : Holds totalRules → ShapeFits (c .lists) k s → (c .scale ≤ 30) × (c .scale ≡ c .balance .scale) → ValuesFit (c .lists) → StepFits c
+  totals-fit : Holds totalRules → ShapeFits (c .lists) k s → SameScale → ValuesFit (c .lists) → StepFits c
   unfolding Holds
   totals-fit h f z g =
       record {
@@ -166,7 +169,7 @@ module _ (c : StepCall) where
     where
       scaled :
           Broken (scaleRule (c .scale) (c .balance .scale) ∷ (valueRules (c .lists) ++ totalRules)) number place
-          → ((c .scale ≤ 30) × (c .scale ≡ c .balance .scale)) × Broken (valueRules (c .lists) ++ totalRules) number place
+          → SameScale × Broken (valueRules (c .lists) ++ totalRules) number place
       scaled g = unfold Broken in (⊎-elim (λ b. absurd (u (sym e ∙ b .0))) (λ b. b) g)
 
       adds : Broken totalRules number place → sum (c .kept) ≡ c .balance .total

@@ -1,6 +1,5 @@
 -- `kept::verdict::step_verdict` meets its contract: each check in its order; those after 17 count on the lengths, and 8 on 13.
 use mathlib.Core.Path.{_≡_, sym, _∙_, ap, ap₂}
-use mathlib.Core.List.{[], _∷_}
 use native.Mathlib.Omega.{arith}
 use lib.ListN.{length}
 use mir.Syntax.{w64}
@@ -8,7 +7,7 @@ use mir.Val.{toZ, ofZ}
 use Rattle.numbers.specs.declared.Checked.{Checked}
 use Rattle.numbers.specs.declared.Checked.the-variants.{Pass}
 use Rattle.numbers.specs.Signed.{over}
-use Rattle.numbers.specs.Checks.{both, first}
+use Rattle.numbers.specs.Checks.{both}
 use Rattle.numbers.proofs.CheckLaws.{on, stop, last}
 use Rattle.qlt_spec.specs.Field.{lists}
 use Rattle.qlt_spec.specs.Checks.{shapeOf, checkValues, checkReach}
@@ -16,8 +15,9 @@ use Rattle.qlt_spec.specs.Operation.{ShapeFits}
 use Rattle.qlt_spec.proofs.CheckLaws.{shape-fits}
 use Rattle.field_checks.proofs.CodeLaws.{sized}
 use Rattle.kept_spec.specs.Open.{checkTotal}
-use Rattle.kept_spec.specs.Step.{StepCall, stepCall, next, newTotal, checkSameScale, checkKept, stepVerdict}
+use Rattle.kept_spec.specs.Step.{StepCall, stepCall, next, checkKept, stepVerdict}
 use Rattle.kept_spec.proofs.OpenLaws.{total-decides}
+use Rattle.kept_spec.proofs.StepLaws.{same, totals}
 use Rattle.kept.proofs.VerdictLaws.{on-both, stop-both}
 use Rattle.kept.proofs.TotalLaws.{next-read}
 use borrow.Author.Needs.{needs}
@@ -33,16 +33,9 @@ given c =
 abbrev Shaped : StepCall → Type 0
 Shaped c = shapeOf (length (c .kept)) (c .lists) (length (c .scratch)) ≡ Pass
 
--- 17, and then 4 to 7
-abbrev same : StepCall → Checked
-same c = checkSameScale (c .scale) (c .balance .scale)
-
+-- 4 to 7
 abbrev values : StepCall → Checked
 values c = checkValues (c .lists)
-
--- 12, 13 and 8
-abbrev totals : StepCall → Checked
-totals c = first (checkKept (c .kept) (c .balance .total) ∷ checkTotal (next c) ∷ checkReach (c .lists .safeLows) (c .lists .safeHighs) (newTotal c) ∷ [])
 
 -- what each check has shown
 shaped : (c : tie.After-enum-told) → Shaped (given (c .before .before .before .before .before .before .before .before .before .before))
