@@ -3,13 +3,13 @@
 use mathlib.Core.Path.{_≡_, refl, sym, ap, ap₂, _∙_, subst}
 use mathlib.Core.List.{List, [], _++_, append-assoc, append-nil}
 use Prim.Native.Nat.{ℕ, zero, suc, _+_, _*_, _-_, _/_, _%_, _^_, _≤_, _<_, min}
-use native.Mathlib.Nat.{min-le-left, suc-mul, mul-suc, mul-comm, mul-le-mul-left, mul-le-mul-right, mod-lt, mod-eq-of-lt, div-add-mod, div-eq-of-lt, div-lt-iff-lt-mul, div-mul-le-self, lt-div-mul-add, mul-add-div, mul-add-mod-self-left, div-one, add-zero, zero-add}
+use native.Mathlib.Nat.{min-le-left, suc-mul, mul-suc, mul-comm, mul-le-mul-left, mul-le-mul-right, mod-lt, mod-eq-of-lt, div-add-mod, div-eq-of-lt, div-lt-iff-lt-mul, div-mul-le-self, lt-div-mul-add, mul-add-div, mul-add-mod-self-left, div-one, add-zero}
 use native.Mathlib.Omega.{arith}
-use lib.ListN.{length, take, drop, set, length-append, length-take, length-drop}
+use lib.ListN.{length, take, drop, length-append, length-take, length-drop}
 use lib.Seq.{ext-getD}
 use Rattle.numbers.specs.Lists.{at, listTo, written}
 use Rattle.numbers.specs.Checks.{both}
-use Rattle.numbers.proofs.ListLaws.{length-listTo, getD-listTo, listTo-ext, written-next}
+use Rattle.numbers.proofs.ListLaws.{length-listTo, getD-listTo, listTo-ext}
 use Rattle.numbers.proofs.PartLaws.{getD-part, written-empty, written-on}
 use Rattle.blocks.specs.declared.tables.Table.{Table}
 use Rattle.blocks.specs.Words.{Words}
@@ -154,10 +154,6 @@ module _ (T : Table) (g : TableFits T) where
 pub used-same : (file : List ℕ) (v w : ℕ → ℕ) (b : ℕ) → v b ≡ w b → checkBlock file v b ≡ checkBlock file w b
 unfolding checkBlock
 used-same file v w b e = ap (λ i. both (checkSound file b) (checkSpare file i b)) e
-
--- one entry more is written from the front of a list
-pub next-entry {ℓ} : {X : Type ℓ} (l : List X) (f : ℕ → X) (i : ℕ) {t : List X} {x : X} → i < length l → t ≡ written l 0 (listTo i f) → x ≡ f i → set t i x ≡ written l 0 (listTo (i + 1) f)
-next-entry l f i {t} {x} h e g = rw (e, g) (ap (λ k. set (written l 0 (listTo i f)) k (f i)) (sym (zero-add i)) ∙ written-next l 0 f i (omega arith))
 
 -- ---- lists of numbers
 

@@ -10,6 +10,7 @@ use numbers::arith::stored_index;
 use test_support::output::print_named;
 use test_support::output::print_number;
 use test_support::output::print_refusal;
+use test_support::output::print_repair;
 use test_support::output::wide;
 
 // A byte as a number of 64 bits.
@@ -92,10 +93,7 @@ pub fn print_answer(answer: AnswerRead) {
     match answer {
         AnswerRead::Read { cells, repair } => {
             print_named(b"read", stored_index(cells));
-            print_number(wide(repair.outcome));
-            print_number(wide(repair.total));
-            print_number(repair.change);
-            print_number(repair.shared);
+            print_repair(repair.outcome, repair.total, repair.change, repair.shared);
         }
         AnswerRead::Refused { number, place } => print_refusal(number, place),
     }

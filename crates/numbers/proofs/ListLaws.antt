@@ -2,6 +2,7 @@
 use mathlib.Core.Path.{_≡_, refl, sym, _∙_, ap}
 use mathlib.Core.List.{List, [], _∷_, _++_, append-assoc, append-nil}
 use Prim.Native.Nat.{ℕ, zero, suc, _+_, _≤_, _<_}
+use native.Mathlib.Nat.{zero-add}
 use native.Mathlib.Numerals.{add-one}
 use native.Mathlib.Omega.{arith}
 use native.Mathlib.Decide.{ℕ-discrete}
@@ -62,3 +63,10 @@ module _ {ℓ} {X : Type ℓ} (l : List X) (from : ℕ) (f : ℕ → X) where
 pub written-all {ℓ} : {X : Type ℓ} (l : List X) (f : ℕ → X) (n : ℕ) → length l ≡ n → written l 0 (listTo n f) ≡ listTo n f
 unfolding written
 written-all l f n e = rw (drop-of-length-le l {i = 0 + length (listTo n f)} (omega (arith, length-listTo n f)), append-nil)
+
+-- a list t that is filled from the front: one entry more, and all of them
+pub next-entry {ℓ} : {X : Type ℓ} (l : List X) (f : ℕ → X) (i : ℕ) {t : List X} {x : X} → i < length l → t ≡ written l 0 (listTo i f) → x ≡ f i → set t i x ≡ written l 0 (listTo (i + 1) f)
+next-entry l f i {t} {x} h e g = rw (e, g) (ap (λ k. set (written l 0 (listTo i f)) k (f i)) (sym (zero-add i)) ∙ written-next l 0 f i (omega arith))
+
+pub all-entries {ℓ} : {X : Type ℓ} (l : List X) (f : ℕ → X) (i n : ℕ) {t : List X} → i ≡ n → length l ≡ n → t ≡ written l 0 (listTo i f) → t ≡ listTo n f
+all-entries l f i n e h p = p ∙ ap (λ k. written l 0 (listTo k f)) e ∙ written-all l f n h

@@ -4,20 +4,14 @@ ghost use lib.ListN.{length};
 ghost use Rattle.reconstruct_test.specs.Cases.{InOrder};
 use numbers::arith::above;
 use numbers::arith::index;
-use numbers::arith::larger;
 use numbers::arith::smaller;
 use test_support::input::read_signed;
+use test_support::runs::fill;
+use test_support::runs::word;
 
 // Where a list ends among lists that stand one behind the other, and the position behind its length in the text.
 struct End {
     end: usize,
-    next: usize,
-}
-
-// How many numbers of a run are left, the number, and the position behind the run.
-struct Run {
-    left: u64,
-    value: i64,
     next: usize,
 }
 
@@ -35,22 +29,6 @@ pub struct Case {
     pub scratch: usize,
     pub total: u32,
     pub next: usize,
-}
-
-// The number as a target, or the end of that range if the number is beyond it.
-fn target(x: i64) -> i32 {
-    if x < -2147483648 {
-        return -2147483648;
-    }
-    if 2147483647 < x {
-        return 2147483647;
-    }
-    x as i32
-}
-
-// The number as an unsigned one of 32 bits, or the end of that range if the number is beyond it.
-fn word(x: i64) -> u32 {
-    test_support::input::word(above(x))
 }
 
 // Where a list ends that starts at `start`, by its length at `at` in the text, which counts as 0 if it is less and as `most` if it is more.
@@ -95,67 +73,6 @@ pub fn read_case(text: &[u8], at: usize) -> Case
         total: word(total.value),
         next: total.next,
     }
-}
-
-// The run with one number taken: of one that has none left, the next run of the text. A count below 1 counts as 1.
-fn taken(text: &[u8], left: u64, value: i64, next: usize) -> Run
-    requires { ⌜ next ≤ length (now text) ⌝ }
-    ensures { λ r. ⌜ r .next ≤ length (now (text .entry)) ⌝ }
-{
-    if 0 < left {
-        return Run {
-            left: left - 1,
-            value,
-            next,
-        };
-    }
-    let count = read_signed(text, next);
-    let number = read_signed(text, count.next);
-    Run {
-        left: larger(above(count.value), 1) - 1,
-        value: number.value,
-        next: number.next,
-    }
-}
-
-// Puts the targets, in runs from `at` on, into the first n places of a list. Returns the position behind them.
-pub fn fill_targets(text: &[u8], at: usize, n: usize, xs: &mut [i32]) -> usize
-    requires { ⌜ (at ≤ length (now text)) × (n ≤ length (now xs)) ⌝ }
-    ensures { λ r. ⌜ r ≤ length (now (text .entry)) ⌝ }
-{
-    let mut left: u64 = 0;
-    let mut value: i64 = 0;
-    let mut next = at;
-    let mut i: usize = 0;
-    while i < n {
-        let run = taken(text, left, value, next);
-        left = run.left;
-        value = run.value;
-        next = run.next;
-        xs[i] = target(value);
-        i += 1;
-    }
-    next
-}
-
-// Puts a list, in runs from `at` on, into the places `start` to `end` of `xs`. Returns the position behind it.
-fn fill(text: &[u8], at: usize, xs: &mut [u32], start: usize, end: usize) -> usize
-    requires { ⌜ (at ≤ length (now text)) × (end ≤ length (now xs)) ⌝ }
-    ensures { λ r. ⌜ r ≤ length (now (text .entry)) ⌝ }
-{
-    let mut left: u64 = 0;
-    let mut value: i64 = 0;
-    let mut next = at;
-    let mut i = start;
-    while i < end {
-        let run = taken(text, left, value, next);
-        left = run.left;
-        value = run.value;
-        next = run.next;
-        xs[i] = word(value);
-        i += 1;
-    }
-    next
 }
 
 // Puts the six lists behind the targets, which start at `at`, into `xs`, one behind the other. Returns the position behind them.

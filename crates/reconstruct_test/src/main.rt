@@ -17,6 +17,7 @@ use input::Case;
 use qlt_spec::Reconstructed;
 use test_support::input::later;
 use test_support::input::skip;
+use test_support::runs::fill_targets;
 
 mod input;
 mod output;
@@ -77,7 +78,7 @@ fn run_case(text: &[u8], at: usize) -> usize
 {
     let case = input::read_case(text, at);
     let mut targets = [0i32; 600];
-    let lists = input::fill_targets(text, case.next, case.targets, &mut targets);
+    let lists = fill_targets(text, case.next, case.targets, &mut targets);
     let mut values = [0u32; 4100];
     let next = input::fill_values(text, lists, case, &mut values);
     let mut masses = [7u32; 600];

@@ -1,26 +1,17 @@
 // What a call answered, and the masses and the scratch after it, as a line of text.
 ghost use Prim.Native.Nat.{_≤_};
 ghost use lib.ListN.{length};
+use libc::STDOUT_FILENO;
 use numbers::arith::index;
 use numbers::arith::smaller;
 use numbers::arith::stored_index;
 use qlt_spec::Reconstructed;
-use qlt_spec::Repair;
 use test_support::output::end_line;
-use test_support::output::print_check;
+use test_support::output::print_list;
 use test_support::output::print_named;
 use test_support::output::print_number;
 use test_support::output::print_refusal;
-use test_support::output::wide;
-
-// Each mass.
-fn print_masses(xs: &[u32]) {
-    let mut i: usize = 0;
-    while i < xs.len() {
-        print_number(wide(xs[i]));
-        i += 1;
-    }
-}
+use test_support::output::print_repair;
 
 // How many numbers of a list are x.
 fn count(xs: &[i64], x: i64) -> usize {
@@ -35,18 +26,13 @@ fn count(xs: &[i64], x: i64) -> usize {
     n
 }
 
-// What an accepted call gives: outcome, total, change and the sum shared out.
-fn print_repair(repair: Repair) {
-    print_named(b"done", wide(repair.outcome));
-    print_number(wide(repair.total));
-    print_number(repair.change);
-    print_number(repair.shared);
-}
-
-// The answer: what an accepted call gives, or the refusal's number and place.
+// The answer: `done` and what the repair gives, or the refusal's number and place.
 fn print_answer(answer: Reconstructed) {
     match answer {
-        Reconstructed::Done(repair) => print_repair(repair),
+        Reconstructed::Done(repair) => {
+            io::write_all(STDOUT_FILENO, b"done");
+            print_repair(repair.outcome, repair.total, repair.change, repair.shared);
+        }
         Reconstructed::Refused { number, place } => print_refusal(number, place),
     }
 }
@@ -56,11 +42,7 @@ pub fn show(answer: Reconstructed, masses: &[u32])
     requires { ⌜ length (now masses) ≤ 600 ⌝ }
 {
     print_answer(answer);
-    if 16 < masses.len() {
-        print_check(masses);
-    } else {
-        print_masses(masses);
-    }
+    print_list(masses);
 }
 
 // The rest of the line: how many of the first `size` numbers of the scratch are 0, how many of the later ones are still 5, and how many

@@ -4,7 +4,6 @@ use mathlib.Core.Path.{_≡_, refl, sym, _∙_, ap, ap₂}
 use mathlib.Core.Bool.{true}
 use mathlib.Core.List.{List, _++_}
 use Prim.Native.Nat.{ℕ, zero, suc, _+_, _*_, _-_, _^_, _≤_, _<_}
-use native.Mathlib.Nat.{zero-add}
 use native.Mathlib.Omega.{arith}
 use native.Mathlib.Numerals.{add-one}
 use native.Mathlib.Decide.{ℕ-discrete, decLt}
@@ -21,7 +20,7 @@ use Rattle.numbers.specs.Sums.{ℕ-adds, ℤ-adds, sumTo}
 use Rattle.numbers.specs.Lists.{atℤ, listTo, written}
 use Rattle.numbers.proofs.SignedLaws.{about, minus-parts}
 use Rattle.numbers.proofs.SumLaws.{sumTo-next, sumTo-ext}
-use Rattle.numbers.proofs.ListLaws.{length-listTo, written-none, written-next}
+use Rattle.numbers.proofs.ListLaws.{length-listTo, written-none, next-entry}
 use Rattle.scratch_spec.specs.Columns.{width, MASS, col, InRow, Stored, OnlyColumn, Laid}
 use Rattle.scratch_spec.proofs.ColumnLaws.{in-row, kept-start, kept-on, kept-write, laid-start, laid-next}
 use Rattle.qlt_spec.specs.Tree.{Valid}
@@ -160,7 +159,7 @@ module _ (s : List ℤ) where
   -- one number more
   pub cleared-next : (k : ℕ) → k < length s → set (cleared k s) k (pos 0) ≡ cleared (k + 1) s
   unfolding cleared
-  cleared-next k l = ap (λ i. set (written s 0 (listTo k (λ j. pos 0))) i (pos 0)) (sym (zero-add k)) ∙ written-next s 0 (λ i. pos 0) k (omega arith)
+  cleared-next k l = next-entry s (λ i. pos 0) k l refl refl
 
 -- what lies past the first j numbers goes by the elements from j on
 drop-ext : (j : ℕ) (a b : List ℤ) → length a ≡ length b → ((i : ℕ) → j ≤ i → atℤ a i ≡ atℤ b i) → drop j a ≡ drop j b

@@ -1,6 +1,7 @@
-// What the test programs share: whole numbers read from text (module `input`), the parts of the lines that they print (module `output`),
-// and files of data/ (module `files`). It serves the test programs alone; no operation uses it.
+// What the test programs share: whole numbers read from text (module `input`), lists of them given in runs (module `runs`), the parts of
+// the lines that they print (module `output`), and files of data/ (module `files`). It serves the test programs alone; no operation uses it.
 // Relies on `numbers`, and the kit's `io`, `os` and `libc`.
 pub mod files;
 pub mod input;
 pub mod output;
+pub mod runs;

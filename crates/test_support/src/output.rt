@@ -107,3 +107,31 @@ pub fn print_check(xs: &[u32])
     print_named(b" sum", sum(xs));
     print_named(b" check", check_number(xs));
 }
+
+// What a repair gives: outcome, total, change and the sum shared out.
+pub fn print_repair(outcome: u32, total: u32, change: u64, shared: u64) {
+    print_number(wide(outcome));
+    print_number(wide(total));
+    print_number(change);
+    print_number(shared);
+}
+
+// Each number of a list.
+fn print_each(xs: &[u32]) {
+    let mut i: usize = 0;
+    while i < xs.len() {
+        print_number(wide(xs[i]));
+        i += 1;
+    }
+}
+
+// Up to 16 numbers, or of more their sum and check number.
+pub fn print_list(xs: &[u32])
+    requires { ⌜ length (now xs) ≤ 600 ⌝ }
+{
+    if 16 < xs.len() {
+        print_check(xs);
+    } else {
+        print_each(xs);
+    }
+}

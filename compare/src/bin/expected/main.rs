@@ -9,6 +9,7 @@ mod output;
 mod query;
 mod reconstruct;
 mod report;
+mod runs;
 mod split;
 
 use compare::program::{self, Program};

@@ -2,6 +2,7 @@
 
 pub use compare::listing::refused;
 use compare::operations::Refusal;
+use compare::tree::{sum, Repair};
 
 /// More masses than these are printed as a sum and a check number.
 const MOST_PRINTED: usize = 16;
@@ -40,5 +41,19 @@ pub fn masses(masses: &[i64], sum: u64) -> String {
         check(sum, masses)
     } else {
         spaced(masses)
+    }
+}
+
+/// The same of 32-bit numbers, with their own sum.
+pub fn words(words: &[u32]) -> String {
+    let wide: Vec<i64> = words.iter().map(|&word| i64::from(word)).collect();
+    masses(&wide, sum(words))
+}
+
+/// What a repair gives beside the masses, or its refusal.
+pub fn repaired(result: Result<Repair, Refusal>) -> String {
+    match result {
+        Ok(repair) => format!("done {} {} {} {}", repair.outcome, repair.total, repair.change, repair.shared),
+        Err(refusal) => refused(refusal),
     }
 }

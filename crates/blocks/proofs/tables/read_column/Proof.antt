@@ -5,9 +5,9 @@ use native.Mathlib.Nat.{le-antisymm}
 use native.Mathlib.Omega.{arith}
 use lib.ListN.{length, length-set}
 use Rattle.numbers.specs.Lists.{listTo, written}
-use Rattle.numbers.proofs.ListLaws.{written-none}
+use Rattle.numbers.proofs.ListLaws.{written-none, next-entry}
 use Rattle.blocks.specs.Tables.{tableWord}
-use Rattle.blocks.proofs.TableLaws.{table-room, next-entry}
+use Rattle.blocks.proofs.TableLaws.{table-room}
 use Rattle.blocks.proofs.tables.read_column.Statement.{statement}
 use Rattle.blocks.proofs.tables.read_column.Tie as tie
 

@@ -9,10 +9,10 @@ use mir.Syntax.{w32}
 use mir.Val.{toZ, ofZ}
 use mir.ValLaws.{toZ-ofZ}
 use Rattle.numbers.specs.Lists.{listTo, written}
-use Rattle.numbers.proofs.ListLaws.{written-none}
+use Rattle.numbers.proofs.ListLaws.{written-none, next-entry}
 use Rattle.blocks.specs.Words.{wordSigned}
 use Rattle.blocks.specs.Tables.{tableWord}
-use Rattle.blocks.proofs.TableLaws.{table-room, next-entry}
+use Rattle.blocks.proofs.TableLaws.{table-room}
 use Rattle.blocks.proofs.tables.read_signed.Statement.{statement}
 use Rattle.blocks.proofs.tables.read_signed.Tie as tie
 

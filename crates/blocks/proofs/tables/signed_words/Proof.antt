@@ -10,9 +10,8 @@ use lib.Signed.{mag}
 use mir.Syntax.{w32}
 use mir.ValLaws.{toZ-ofZ}
 use Rattle.numbers.specs.Lists.{atℤ, listTo, written}
-use Rattle.numbers.proofs.ListLaws.{written-none}
+use Rattle.numbers.proofs.ListLaws.{written-none, next-entry}
 use Rattle.blocks.specs.Words.{signedWord}
-use Rattle.blocks.proofs.TableLaws.{next-entry}
 use Rattle.blocks.proofs.tables.signed_words.Statement.{statement}
 use Rattle.blocks.proofs.tables.signed_words.Tie as tie
 

@@ -6,9 +6,9 @@ use native.Mathlib.Nat.{le-antisymm}
 use native.Mathlib.Omega.{arith}
 use lib.ListN.{length, length-set}
 use Rattle.numbers.specs.Lists.{at, listTo, written}
-use Rattle.numbers.proofs.ListLaws.{written-none}
+use Rattle.numbers.proofs.ListLaws.{written-none, next-entry}
 use Rattle.blocks.specs.Tables.{tableWords}
-use Rattle.blocks.proofs.TableLaws.{record-of, next-entry}
+use Rattle.blocks.proofs.TableLaws.{record-of}
 use Rattle.files_spec.specs.FieldFile.{cellTable}
 use Rattle.files_spec.proofs.ReadLaws.{cell-fits}
 use Rattle.field_file.specs.Cells.{sixWords}

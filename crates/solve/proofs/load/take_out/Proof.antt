@@ -1,12 +1,10 @@
 -- `solve::load::take_out` meets its contract: the masses of the rows passed are written over the list.
-use mathlib.Core.Path.{_≡_, refl, sym, _∙_, ap, ap₂}
-use mathlib.Core.List.{List}
+use mathlib.Core.Path.{_≡_, refl, _∙_}
 use Prim.Native.Nat.{ℕ, _-_, _≤_}
-use native.Mathlib.Nat.{zero-add}
 use native.Mathlib.Omega.{arith}
-use lib.ListN.{length, set, length-set}
+use lib.ListN.{length, length-set}
 use Rattle.numbers.specs.Lists.{listTo, written}
-use Rattle.numbers.proofs.ListLaws.{written-none, written-next, written-all}
+use Rattle.numbers.proofs.ListLaws.{written-none, next-entry, all-entries}
 use Rattle.scratch_spec.specs.Columns.{MASS, num}
 use Rattle.scratch_spec.proofs.ColumnLaws.{in-row}
 use borrow.Author.Needs.{needs}
@@ -47,9 +45,7 @@ loop-again c =
     let f : ℕ → ℕ = λ i. num MASS (c .before .before .before .before .before .args .s .now) i in (
       omega arith,
       length-set (w .masses) (w .u) (c .narrow .result) ∙ w .inv .1,
-      ap₂ (λ (l : List ℕ) (x : ℕ). set l (w .u) x) (w .inv .2) (c .narrow .ensures ∙ c .before .get-above .ensures .0)
-          ∙ ap (λ i. set (written old 0 (listTo (w .u) f)) i (f (w .u))) (sym (zero-add (w .u)))
-          ∙ written-next old 0 f (w .u) (omega arith),
+      next-entry old f (w .u) (omega arith) (w .inv .2) (c .narrow .ensures ∙ c .before .get-above .ensures .0),
     )
 
 same-length : tie.Need-same-length Inv-loop μ-loop
@@ -59,9 +55,7 @@ returns : tie.Need-returns Inv-loop μ-loop
 returns c =
     let old = c .before .before .before .args .masses .now in
     let e : c .before .loop .u ≡ length old = omega arith in
-    c .before .loop .inv .2
-    ∙ ap (λ k. written old 0 (listTo k (λ w. num MASS (c .before .before .before .args .s .now) w))) e
-    ∙ written-all old _ (length old) refl
+    all-entries old (λ w. num MASS (c .before .before .before .args .s .now) w) (c .before .loop .u) (length old) e refl (c .before .loop .inv .2)
 
 pub take-out-spec : {M : Type 1} → statement M
 take-out-spec =

@@ -1,13 +1,11 @@
 -- `split::work::copy_masses` meets its contract: the masses of the rows passed are written over the list.
-use mathlib.Core.Path.{_≡_, refl, sym, _∙_, ap, ap₂}
-use mathlib.Core.List.{List}
+use mathlib.Core.Path.{_≡_, refl, _∙_, ap}
 use Prim.Native.Nat.{ℕ, _-_, _≤_}
-use native.Mathlib.Nat.{zero-add}
 use native.Mathlib.Omega.{arith}
 use lib.IntN.{ℤ, pos}
-use lib.ListN.{length, set}
+use lib.ListN.{length}
 use Rattle.numbers.specs.Lists.{listTo, written}
-use Rattle.numbers.proofs.ListLaws.{written-none, length-written, written-next, written-all}
+use Rattle.numbers.proofs.ListLaws.{written-none, length-written, next-entry, all-entries}
 use Rattle.scratch_spec.specs.Columns.{MASS, num}
 use Rattle.scratch_spec.proofs.ColumnLaws.{in-row}
 use borrow.Author.Needs.{needs}
@@ -43,9 +41,8 @@ loop-again c = let u = c .before .before .before .before .before .loop .u in
     let f : ℕ → ℤ = λ w. pos (num MASS (c .before .before .before .before .before .before .args .s .now) w) in (
       omega (arith, long (c .before .before .before .before)),
       c .before .put .ensures
-          ∙ ap₂ (λ (l : List ℤ) (z : ℤ). set l u z) (c .before .before .before .before .before .loop .inv .1) (ap pos (c .before .before .before .get-above .ensures .0))
-          ∙ ap (λ k. set (written (c .before .before .before .before .before .before .args .masses .now) 0 (listTo u f)) k (f u)) (sym (zero-add u))
-          ∙ written-next (c .before .before .before .before .before .before .args .masses .now) 0 f u (omega (arith, long (c .before .before .before .before))),
+          ∙ next-entry (c .before .before .before .before .before .before .args .masses .now) f u (omega (arith, long (c .before .before .before .before)))
+          (c .before .before .before .before .before .loop .inv .1) (ap pos (c .before .before .before .get-above .ensures .0)),
     )
 
 same-length : tie.Need-same-length Inv-loop μ-loop
@@ -56,9 +53,7 @@ returns c =
     let old = c .before .before .args .masses .now in
     let long : length (c .before .loop .masses) ≡ length old = ap length (c .before .loop .inv .1) ∙ length-written old 0 _ (c .before .loop .u) (omega arith) in
     let e : c .before .loop .u ≡ length old = omega arith in
-    c .before .loop .inv .1
-    ∙ ap (λ k. written old 0 (listTo k (λ w. pos (num MASS (c .before .before .args .s .now) w)))) e
-    ∙ written-all old _ (length old) refl
+    all-entries old (λ w. pos (num MASS (c .before .before .args .s .now) w)) (c .before .loop .u) (length old) e refl (c .before .loop .inv .1)
 
 pub copy-masses-spec : {M : Type 1} → statement M
 copy-masses-spec =

@@ -1,10 +1,10 @@
--- `reconstruct_test::output::print_masses` is safe and ends: the index stays within the masses.
+-- `test_support::output::print_each` is safe and ends: the index stays within the masses.
 use Prim.Native.Nat.{_≤_, _-_}
 use native.Mathlib.Omega.{arith}
 use borrow.Author.Needs.{needs}
 use lib.ListN.{length}
-use Rattle.reconstruct_test.proofs.output.print_masses.Statement.{statement}
-use Rattle.reconstruct_test.proofs.output.print_masses.Tie as tie
+use Rattle.test_support.proofs.output.print_each.Statement.{statement}
+use Rattle.test_support.proofs.output.print_each.Tie as tie
 
 abbrev Inv-loop : tie.InvT-loop
 Inv-loop xs i₀ i = i ≤ length xs
@@ -39,8 +39,8 @@ loop-again c = omega arith
 returns : tie.Need-returns Inv-loop μ-loop
 returns c = search needs
 
-pub print-masses-spec : {M : Type 1} → statement M
-print-masses-spec =
+pub print-each-spec : {M : Type 1} → statement M
+print-each-spec =
     tie.close
     (tie.spec
     Inv-loop

@@ -1,11 +1,11 @@
--- `reconstruct_test::input::target` is safe: a number that is within the range of 32 bits fits them.
+-- `test_support::runs::target` is safe: a number that is within the range of 32 bits fits them.
 use lib.IntN.{ℤ}
 use mir.Syntax.{w64}
 use mir.Val.{toZ, ofZ}
 use borrow.Author.Needs.{needs}
 use Rattle.numbers.proofs.SignedLaws.{signed, mag-parts, plain, one-part}
-use Rattle.reconstruct_test.proofs.input.target.Statement.{statement}
-use Rattle.reconstruct_test.proofs.input.target.Tie as tie
+use Rattle.test_support.proofs.runs.target.Statement.{statement}
+use Rattle.test_support.proofs.runs.target.Tie as tie
 
 abbrev read : (c : tie.Else2) → ℤ
 read c = toZ w64 (ofZ w64 (c .before .before .args .x))
