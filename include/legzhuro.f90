@@ -18,12 +18,13 @@ module legzhuro
     integer(c_int32_t), parameter, public :: legzhuro_max_total = 2147483647
     integer(c_int32_t), parameter, public :: legzhuro_max_scale = 30
     integer, parameter, public :: legzhuro_scratch = 6 ! scratch numbers for each node
+    integer(c_int32_t), parameter, public :: legzhuro_ratio = 1048576 ! the parts of a mixing ratio; also the largest ratio
     integer, parameter, public :: legzhuro_max_field_file = 18432 ! bytes
     integer, parameter, public :: legzhuro_max_answer_file = 3072 ! bytes
 
     public :: legzhuro_reconstruct, legzhuro_write_field, legzhuro_read_answer
     public :: legzhuro_split, legzhuro_open, legzhuro_step, legzhuro_import, legzhuro_export
-    public :: legzhuro_export_single
+    public :: legzhuro_export_single, legzhuro_bounds
     public :: legzhuro_number, legzhuro_place, legzhuro_field_file, legzhuro_answer_file
 
     interface
@@ -99,6 +100,18 @@ module legzhuro
             integer(c_int64_t), intent(inout) :: scratch(scratch_len), answer(answer_len)
             integer(c_int64_t) :: returned
         end function legzhuro_step
+
+        ! Makes the bounds of a field from air masses and mixing ratios in parts of 1048576.
+        function legzhuro_bounds(air, air_len, low_ratios, low_ratios_len, high_ratios, high_ratios_len, lows, lows_len, highs, &
+                                 highs_len, safe_lows, safe_lows_len, safe_highs, safe_highs_len) result(returned) &
+            bind(c, name='legzhuro_bounds')
+            import :: c_int32_t, c_int64_t, c_size_t
+            integer(c_size_t), value :: air_len, low_ratios_len, high_ratios_len, lows_len, highs_len, safe_lows_len, safe_highs_len
+            integer(c_int32_t), intent(in) :: air(air_len), low_ratios(low_ratios_len), high_ratios(high_ratios_len)
+            integer(c_int32_t), intent(inout) :: lows(lows_len), highs(highs_len), safe_lows(safe_lows_len)
+            integer(c_int32_t), intent(inout) :: safe_highs(safe_highs_len)
+            integer(c_int64_t) :: returned
+        end function legzhuro_bounds
 
         ! Turns a cell's doubles into units: units(1) to units(5) are target, low, high, safe low and safe high.
         function legzhuro_import(target, low, high, safe_low, safe_high, scale, units, units_len) result(returned) &

@@ -30,6 +30,7 @@
  *   15  a block of the file with a wrong number or check word (place: the block, from 1)
  *   16  a file whose first payload word is not 512, or a spare word that is not 0; an answer file with an outcome above 2 (place: the block)
  *   17  a step whose scale is above 30 or not that of the balance
+ *   18  a ratio above 1048576 (place: the first cell)
  */
 #ifndef LEGZHURO_H
 #define LEGZHURO_H
@@ -50,6 +51,7 @@ extern "C" {
 #define LEGZHURO_MAX_TOTAL 2147483647 /* also the most that highs, safe highs or weights add up to */
 #define LEGZHURO_MAX_SCALE 30
 #define LEGZHURO_SCRATCH 6            /* scratch numbers for each node */
+#define LEGZHURO_RATIO 1048576        /* the parts of a mixing ratio; also the largest ratio */
 #define LEGZHURO_MAX_FIELD_FILE 18432 /* bytes */
 #define LEGZHURO_MAX_ANSWER_FILE 3072 /* bytes */
 
@@ -122,6 +124,17 @@ uint64_t legzhuro_step(uint32_t total, uint32_t total_scale, uint32_t *kept, siz
                        size_t highs_len, const uint32_t *safe_lows, size_t safe_lows_len, const uint32_t *safe_highs,
                        size_t safe_highs_len, const uint32_t *weights, size_t weights_len, const uint32_t *parents, size_t parents_len,
                        int64_t *scratch, size_t scratch_len, uint64_t *answer, size_t answer_len);
+
+/* Makes the bounds of a field from mixing ratios: air[c] is the mass of the air of cell c, of 1 to 512 cells, low_ratios[c] and high_ratios[c]
+ * are its ratios in parts of 1048576, at most that each. lows[c] is air times low ratio / 1048576 rounded up, highs[c] air times high ratio /
+ * 1048576 rounded down; safe_lows[c] is by the smallest low ratio of the field, rounded up, and safe_highs[c] by the largest high ratio,
+ * rounded down. All lists must have the same length. A low that comes out above its high is not refused here: legzhuro_step and
+ * legzhuro_reconstruct refuse it with 5. If all ratios of the field are equal and each product divides evenly, then after an accepted step or
+ * repair with these bounds every mass is air times ratio / 1048576, whatever the targets.
+ * Refusals: 1, 3, 18 (place: the first cell that has a ratio above 1048576, low or high). */
+uint64_t legzhuro_bounds(const uint32_t *air, size_t air_len, const uint32_t *low_ratios, size_t low_ratios_len, const uint32_t *high_ratios,
+                         size_t high_ratios_len, uint32_t *lows, size_t lows_len, uint32_t *highs, size_t highs_len, uint32_t *safe_lows,
+                         size_t safe_lows_len, uint32_t *safe_highs, size_t safe_highs_len);
 
 /* Turns a cell's doubles into whole units of 2^-scale, for a scale of 0 to 30: each times 2^scale exactly, then the target to nearest with
  * ties to even, the lows up, the highs down. Minus zero is 0. units[0] to units[4] are target (-2147483648 to 2147483647), low, high, safe

@@ -89,6 +89,22 @@ extern "C" {
         answer: *mut u64,
         answer_len: usize,
     ) -> u64;
+    fn legzhuro_bounds(
+        air: *const u32,
+        air_len: usize,
+        low_ratios: *const u32,
+        low_ratios_len: usize,
+        high_ratios: *const u32,
+        high_ratios_len: usize,
+        lows: *mut u32,
+        lows_len: usize,
+        highs: *mut u32,
+        highs_len: usize,
+        safe_lows: *mut u32,
+        safe_lows_len: usize,
+        safe_highs: *mut u32,
+        safe_highs_len: usize,
+    ) -> u64;
 }
 
 // Safety of every wrapper: the pointers and lengths are those of slices, so they are valid, aligned and not null, and exclusive borrows
@@ -194,4 +210,33 @@ pub fn write_field(cells: usize, nodes: usize, total: u32, lists: &Lists, buffer
 
 pub fn read_answer(file: &[u8], masses: &mut [u32], answer: &mut [u64]) -> u64 {
     unsafe { legzhuro_read_answer(file.as_ptr(), file.len(), masses.as_mut_ptr(), masses.len(), answer.as_mut_ptr(), answer.len()) }
+}
+
+pub fn bounds(
+    air: &[u32],
+    low_ratios: &[u32],
+    high_ratios: &[u32],
+    lows: &mut [u32],
+    highs: &mut [u32],
+    safe_lows: &mut [u32],
+    safe_highs: &mut [u32],
+) -> u64 {
+    unsafe {
+        legzhuro_bounds(
+            air.as_ptr(),
+            air.len(),
+            low_ratios.as_ptr(),
+            low_ratios.len(),
+            high_ratios.as_ptr(),
+            high_ratios.len(),
+            lows.as_mut_ptr(),
+            lows.len(),
+            highs.as_mut_ptr(),
+            highs.len(),
+            safe_lows.as_mut_ptr(),
+            safe_lows.len(),
+            safe_highs.as_mut_ptr(),
+            safe_highs.len(),
+        )
+    }
 }

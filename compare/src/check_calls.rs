@@ -22,7 +22,7 @@ pub fn breaks(random: &mut Random) -> u64 {
 }
 
 /// A number of cells that is out of range or next to it; rarely one that only looks right in 16 bits.
-fn wrong_count(random: &mut Random) -> usize {
+pub fn wrong_count(random: &mut Random) -> usize {
     if random.chance(2) {
         65536 + 8
     } else {
@@ -31,7 +31,7 @@ fn wrong_count(random: &mut Random) -> usize {
 }
 
 /// Makes a list shorter or longer by some entries.
-fn stretch<T: Copy>(random: &mut Random, list: &mut Vec<T>, filler: T) {
+pub fn stretch<T: Copy>(random: &mut Random, list: &mut Vec<T>, filler: T) {
     let length = match random.below(4) {
         0 => 0,
         1 => list.len().saturating_sub(1),

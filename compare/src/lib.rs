@@ -1,11 +1,13 @@
-//! A second implementation of the paper 01 and of tickets 1 to 7 of 02 (`split`, `tree`, `operations`, `doubles`, `files`, `listing`,
-//! `query`), written from the papers alone and sharing no code with the proved library; the files of the test programs (`program`,
-//! `numbers`, `query_cases`); and, with the feature `library`, what compares the library with it: the calls from C (`calls`, and `from_c`
-//! for the second implementation's side), inputs (`random`, `damage`), and the checks that the comparison program runs (`tally`, `shared`
-//! and `check_...`).
+//! A second implementation of the paper 01 and of tickets 1 to 8 of 02 (`split`, `tree`, `operations`, `doubles`, `files`, `listing`,
+//! `query`, `ratios`), written from the papers alone and sharing no code with the proved library; the files of the test programs
+//! (`program`, `numbers`, `query_cases`); and, with the feature `library`, what compares the library with it: the calls from C (`calls`,
+//! and `from_c` for the second implementation's side), inputs (`random`, `damage`), and the checks that the comparison program runs
+//! (`tally`, `shared` and `check_...`).
 
 #[cfg(feature = "library")]
 pub mod calls;
+#[cfg(feature = "library")]
+pub mod check_bounds;
 #[cfg(feature = "library")]
 pub mod check_calls;
 #[cfg(feature = "library")]
@@ -29,6 +31,7 @@ pub mod program;
 pub mod query;
 pub mod query_cases;
 pub mod random;
+pub mod ratios;
 #[cfg(feature = "library")]
 pub mod shared;
 pub mod split;

@@ -5,12 +5,12 @@
 
 use compare::random::Random;
 use compare::tally::Tally;
-use compare::{check_calls, check_examples, check_files, check_published, check_query, check_run};
+use compare::{check_bounds, check_calls, check_examples, check_files, check_published, check_query, check_run};
 use std::path::Path;
 
 const SEED: u64 = 20190525;
 
-// The refusals that a call can give, after the section "Operations and what each turns down" of 01 and tickets 1, 2 and 5 to 7 of 02, in
+// The refusals that a call can give, after the section "Operations and what each turns down" of 01 and tickets 1, 2 and 5 to 8 of 02, in
 // its order of checks. From C a list that is too short for what a call gives counts under 3.
 const SPLIT: [usize; 6] = [1, 3, 5, 6, 7, 8];
 const OPEN: [usize; 4] = [3, 1, 9, 13];
@@ -35,6 +35,11 @@ const QUERY: [usize; 11] = [14, 15, 16, 1, 2, 3, 4, 5, 6, 7, 8];
 const EXAMPLES: [usize; 3] = [4, 8, 11];
 // Steps by valid fields to any total, and splits with nothing broken.
 const PUBLISHED: [usize; 2] = [13, 8];
+const BOUNDS: [usize; 3] = [1, 3, 18];
+// Steps by sound trees and weights, and by bounds from ratios in range.
+const BOUNDS_TO_STEP: [usize; 4] = [5, 6, 13, 8];
+// Totals in range that a field with one ratio does not have.
+const CONSISTENCY: [usize; 1] = [8];
 
 const OUTCOMES: [usize; 3] = [0, 1, 2];
 
@@ -86,6 +91,12 @@ fn main() {
     tally.end_part("stored queries", &QUERY, &OUTCOMES);
     check_query::queries(&mut tally, &mut random, &tool, scaled(4_000));
     tally.end_part("query", &QUERY, &OUTCOMES);
+    check_bounds::conversions(&mut tally, &mut random, scaled(200_000));
+    tally.end_part("bounds", &BOUNDS, &[]);
+    check_bounds::fields(&mut tally, &mut random, scaled(60_000));
+    tally.end_part("bounds to step", &BOUNDS_TO_STEP, &OUTCOMES);
+    check_bounds::consistency(&mut tally, &mut random, scaled(30_000));
+    tally.end_part("consistency", &CONSISTENCY, &[0]);
 
     if !tally.passes() {
         std::process::exit(1);

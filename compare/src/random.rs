@@ -156,7 +156,7 @@ fn lower_bounds(random: &mut Random, safe_high: u32) -> [u32; 3] {
     }
 }
 
-fn target(random: &mut Random, style: u64, low: u32, high: u32) -> i32 {
+pub fn target(random: &mut Random, style: u64, low: u32, high: u32) -> i32 {
     let (low, high) = (i64::from(low), i64::from(high));
     let wanted = match if style == 5 { random.below(5) } else { style } {
         0 => random.between(low, high),
@@ -168,7 +168,7 @@ fn target(random: &mut Random, style: u64, low: u32, high: u32) -> i32 {
     wanted.clamp(i64::from(i32::MIN), i64::from(i32::MAX)) as i32
 }
 
-fn weights(random: &mut Random, cells: usize) -> Vec<u32> {
+pub fn weights(random: &mut Random, cells: usize) -> Vec<u32> {
     match random.below(6) {
         0 | 1 => vec![0; cells],
         2 => vec![1; cells],
@@ -218,7 +218,7 @@ pub fn odd_number(random: &mut Random, cells: usize, nodes: usize) -> u32 {
     }
 }
 
-fn break_list(random: &mut Random, list: &mut [u32], value: u32) {
+pub fn break_list(random: &mut Random, list: &mut [u32], value: u32) {
     if !list.is_empty() {
         let index = random.index(list.len());
         list[index] = value;

@@ -1,4 +1,5 @@
-/* Opens a kept field, steps it four times (the second step is refused for its total, the third for its scale), imports a cell's doubles, exports a mass as a double and one as a
+/* Opens a kept field, steps it four times (the second step is refused for its total, the third for its scale), makes bounds from mixing ratios
+ * (at first with a ratio that is refused) and steps the field with them, imports a cell's doubles, exports a mass as a double and one as a
  * binary32, writes the field as a file and repairs that file, and repairs the file named. Usage: example FIELD_FILE. The status is 0 if both
  * were repaired, else 1. */
 #include <inttypes.h>
@@ -9,10 +10,13 @@
 #define CELLS 4
 #define NODES 7
 
+struct bounds {
+    uint32_t lows[CELLS], highs[CELLS], safe_lows[CELLS], safe_highs[CELLS];
+};
+
 /* The field that is stepped and written. */
 static const int32_t targets[CELLS] = {-2, 9, 4, 5};
-static const uint32_t lows[CELLS] = {0, 0, 0, 0}, highs[CELLS] = {8, 8, 8, 8};
-static const uint32_t safe_lows[CELLS] = {0, 0, 0, 0}, safe_highs[CELLS] = {10, 10, 10, 10};
+static const struct bounds field_bounds = {{0, 0, 0, 0}, {8, 8, 8, 8}, {0, 0, 0, 0}, {10, 10, 10, 10}};
 static const uint32_t weights[CELLS] = {0, 0, 0, 0};
 static const uint32_t parents[NODES] = {4, 4, 5, 5, 6, 6, 6};
 
@@ -22,9 +26,13 @@ static int refused(uint64_t returned) {
     return 1;
 }
 
+static void print_list(const char *name, const uint32_t *list, size_t cells) {
+    printf(" %s", name);
+    for (size_t c = 0; c < cells; c++) printf(" %" PRIu32, list[c]);
+}
+
 static void print_masses(const uint32_t *masses, size_t cells) {
-    printf(" masses");
-    for (size_t c = 0; c < cells; c++) printf(" %" PRIu32, masses[c]);
+    print_list("masses", masses, cells);
     printf("\n");
 }
 
@@ -37,19 +45,46 @@ static int open_field(const uint32_t *kept, uint32_t scale, uint64_t *balance) {
     return 0;
 }
 
-static int step(uint64_t *balance, uint32_t *kept, int32_t source, uint32_t scale) {
+static int step(uint64_t *balance, uint32_t *kept, int32_t source, uint32_t scale, const struct bounds *bounds) {
     static int64_t scratch[LEGZHURO_SCRATCH * NODES];
     uint64_t answer[4];
 
     printf("step %" PRId32 " at scale %" PRIu32 ":", source, scale);
     uint64_t returned =
-        legzhuro_step((uint32_t)balance[0], (uint32_t)balance[1], kept, CELLS, source, scale, targets, CELLS, lows, CELLS, highs, CELLS,
-                      safe_lows, CELLS, safe_highs, CELLS, weights, CELLS, parents, NODES, scratch, LEGZHURO_SCRATCH * NODES, answer, 4);
+        legzhuro_step((uint32_t)balance[0], (uint32_t)balance[1], kept, CELLS, source, scale, targets, CELLS, bounds->lows, CELLS,
+                      bounds->highs, CELLS, bounds->safe_lows, CELLS, bounds->safe_highs, CELLS, weights, CELLS, parents, NODES, scratch,
+                      LEGZHURO_SCRATCH * NODES, answer, 4);
     if (returned != 0) return refused(returned);
     balance[0] = answer[1];
     printf(" outcome %" PRIu64 " total %" PRIu64 " change %" PRIu64 " shared %" PRIu64, answer[0], answer[1], answer[2], answer[3]);
     print_masses(kept, CELLS);
     return 0;
+}
+
+/* Bounds by each cell's air mass, and a ratio of a quarter but for the high ratio of cell 2. */
+static int make_bounds(uint32_t high_ratio, struct bounds *bounds) {
+    const uint32_t quarter = LEGZHURO_RATIO / 4, air[CELLS] = {8, 16, 4, 12};
+    const uint32_t low_ratios[CELLS] = {quarter, quarter, quarter, quarter}, high_ratios[CELLS] = {quarter, quarter, high_ratio, quarter};
+
+    printf("bounds:");
+    uint64_t returned = legzhuro_bounds(air, CELLS, low_ratios, CELLS, high_ratios, CELLS, bounds->lows, CELLS, bounds->highs, CELLS,
+                                        bounds->safe_lows, CELLS, bounds->safe_highs, CELLS);
+    if (returned != 0) return refused(returned);
+    print_list("lows", bounds->lows, CELLS);
+    print_list("highs", bounds->highs, CELLS);
+    print_list("safe lows", bounds->safe_lows, CELLS);
+    print_list("safe highs", bounds->safe_highs, CELLS);
+    printf("\n");
+    return 0;
+}
+
+/* With all ratios equal and each product whole, every mass is air times ratio, whatever the targets. */
+static int step_by_ratios(uint64_t *balance, uint32_t *kept) {
+    struct bounds bounds;
+
+    make_bounds(LEGZHURO_RATIO + 1, &bounds);
+    if (make_bounds(LEGZHURO_RATIO / 4, &bounds) != 0) return 1;
+    return step(balance, kept, 3, 1, &bounds);
 }
 
 static int convert(void) {
@@ -92,8 +127,9 @@ static int repair_written(uint32_t total) {
     static uint8_t file[LEGZHURO_FIELD_FILE(CELLS, NODES)];
 
     printf("written:");
-    uint64_t returned = legzhuro_write_field(CELLS, NODES, total, targets, CELLS, lows, CELLS, highs, CELLS, safe_lows, CELLS, safe_highs,
-                                             CELLS, weights, CELLS, parents, NODES, file, sizeof file);
+    uint64_t returned = legzhuro_write_field(CELLS, NODES, total, targets, CELLS, field_bounds.lows, CELLS, field_bounds.highs, CELLS,
+                                             field_bounds.safe_lows, CELLS, field_bounds.safe_highs, CELLS, weights, CELLS, parents, NODES,
+                                             file, sizeof file);
     if (returned != 0) return refused(returned);
     return repair(file, sizeof file);
 }
@@ -116,11 +152,11 @@ int main(int argc, char **argv) {
         return 1;
     }
     if (open_field(kept, 1, balance) != 0) return 1;
-    step(balance, kept, 6, 1);
-    step(balance, kept, 100, 1);
-    step(balance, kept, -9, 2);
-    step(balance, kept, -9, 1);
-    if (convert() != 0 || repair_written(16) != 0) return 1;
+    step(balance, kept, 6, 1, &field_bounds);
+    step(balance, kept, 100, 1, &field_bounds);
+    step(balance, kept, -9, 2, &field_bounds);
+    step(balance, kept, -9, 1, &field_bounds);
+    if (step_by_ratios(balance, kept) != 0 || convert() != 0 || repair_written(16) != 0) return 1;
     int status = repair_read(in);
     fclose(in);
     return status;

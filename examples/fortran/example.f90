@@ -1,5 +1,6 @@
-! Opens a kept field, steps it four times (the second step is refused for its total, the third for its scale), exports the
-! masses as doubles and as binary32 values, writes the field as a file and repairs that file, and repairs the file named.
+! Opens a kept field, steps it four times (the second step is refused for its total, the third for its scale), makes bounds from
+! mixing ratios (at first with a ratio that is refused) and steps the field with them, exports the masses as doubles and as binary32
+! values, writes the field as a file and repairs that file, and repairs the file named.
 ! Usage: example FIELD_FILE. To build it, after rt staticlib legzhuro_c:
 ! gfortran -Jtarget include/legzhuro.f90 examples/fortran/example.f90 target/staticlib/liblegzhuro_c.a -o target/example_fortran
 program example
@@ -8,9 +9,9 @@ program example
     implicit none
     integer(c_size_t), parameter :: cells = 4, nodes = 7
     ! The field that is stepped and written.
-    integer(c_int32_t), parameter :: targets(cells) = [-2, 9, 4, 5], lows(cells) = 0, highs(cells) = 8
-    integer(c_int32_t), parameter :: safe_lows(cells) = 0, safe_highs(cells) = 10, weights(cells) = 0
+    integer(c_int32_t), parameter :: targets(cells) = [-2, 9, 4, 5], weights(cells) = 0
     integer(c_int32_t), parameter :: parents(nodes) = [4, 4, 5, 5, 6, 6, 6]
+    integer(c_int32_t) :: lows(cells) = 0, highs(cells) = 8, safe_lows(cells) = 0, safe_highs(cells) = 10
     integer(c_int32_t) :: kept(cells) = [1, 2, 3, 4], total, total_scale
     integer(c_int64_t) :: answer(5), returned
 
@@ -23,8 +24,11 @@ program example
     call step(100, 1)
     call step(-9, 2)
     call step(-9, 1)
-    call export_masses(total_scale)
     call repair_written(16)
+    call make_bounds(legzhuro_ratio + 1)
+    call make_bounds(legzhuro_ratio/4)
+    call step(3, 1)
+    call export_masses(total_scale)
     call repair_read()
 
 contains
@@ -45,6 +49,24 @@ contains
         print '(a, i0, 5(a, i0), a, *(1x, i0))', 'step ', source, ' at scale ', scale, ': outcome ', answer(1), ' total ', &
             answer(2), ' change ', answer(3), ' shared ', answer(4), ' masses', kept
     end subroutine step
+
+    ! Bounds by each cell's air mass, and a ratio of a quarter but for the high ratio of cell 2. With all ratios equal and each
+    ! product whole, every mass of the step is air times ratio, whatever the targets.
+    subroutine make_bounds(high_ratio)
+        integer(c_int32_t), intent(in) :: high_ratio
+        integer(c_int32_t), parameter :: air(cells) = [8, 16, 4, 12], quarter = legzhuro_ratio/4
+
+        returned = legzhuro_bounds(air, cells, spread(quarter, 1, int(cells)), cells, [quarter, quarter, high_ratio, quarter], &
+                                   cells, lows, cells, highs, cells, safe_lows, cells, safe_highs, cells)
+        if (returned /= 0) then
+            print '(2(a, i0))', 'bounds: refused ', legzhuro_number(returned), ' ', legzhuro_place(returned)
+            return
+        end if
+        print '(a, *(1x, i0))', 'bounds: lows', lows
+        print '(a, *(1x, i0))', 'bounds: highs', highs
+        print '(a, *(1x, i0))', 'bounds: safe lows', safe_lows
+        print '(a, *(1x, i0))', 'bounds: safe highs', safe_highs
+    end subroutine make_bounds
 
     subroutine export_masses(scale)
         integer(c_int32_t), intent(in) :: scale

@@ -1,12 +1,13 @@
-//! Measures a step and the call on a field file at 8, 64 and 512 cells on flat, binary and chain trees: the proved library against the
-//! second implementation. Every number is the median over batches; both sides take turns, so that other load on the machine slows both
-//! alike.
+//! Measures a step and the call on a field file at 8, 64 and 512 cells on flat, binary and chain trees, and bounds from ratios, which need
+//! no tree: the proved library against the second implementation. Every number is the median over batches; both sides take turns, so that
+//! other load on the machine slows both alike.
 
 use compare::calls;
 use compare::files::{answer_file_length, field_file, reconstruct_file, FileWorkspace};
 use compare::from_c::step;
 use compare::operations::Balance;
 use compare::random::{binary, chain, flat, partition, Random};
+use compare::ratios::{bounds, WHOLE};
 use compare::tree::{sum, Field, Workspace};
 use std::hint::black_box;
 use std::time::Instant;
@@ -58,10 +59,9 @@ fn make_field(random: &mut Random, parents: Vec<u32>, cells: usize) -> (Field, u
     (field, total as u32)
 }
 
-fn print_line(call: &str, shape: &str, field: &Field, (library, second): (f64, f64)) {
-    let (cells, nodes) = (field.targets.len(), field.parents.len());
+fn print_line(call: &str, shape: &str, cells: usize, nodes: usize, (library, second): (f64, f64)) {
     println!(
-        "{call:<5} {shape:<7} {cells:>5} {nodes:>5} {library:>12.0} {second:>12.0} {:>7.2} {:>12.1} {:>12.1}",
+        "{call:<6} {shape:<7} {cells:>5} {nodes:>5} {library:>12.0} {second:>12.0} {:>7.2} {:>12.1} {:>12.1}",
         library / second,
         library / nodes as f64,
         second / nodes as f64
@@ -96,17 +96,37 @@ fn measure_file(field: &Field, total: u32) -> (f64, f64) {
     measure(&mut library, &mut second)
 }
 
+fn measure_bounds(random: &mut Random, cells: usize) -> (f64, f64) {
+    let mut list = |most: u32| (0..cells).map(|_| random.below(u64::from(most) + 1) as u32).collect::<Vec<u32>>();
+    let (air, low_ratios, high_ratios) = (list(u32::MAX), list(WHOLE), list(WHOLE));
+    let mut lent = [0; 4].map(|_| vec![0; cells]);
+    let mut lent_too = lent.clone();
+    let mut library = || {
+        let [lows, highs, safe_lows, safe_highs] = black_box(&mut lent);
+        assert!(calls::bounds(black_box(&air), &low_ratios, &high_ratios, lows, highs, safe_lows, safe_highs) == 0);
+    };
+    let mut second = || {
+        let [lows, highs, safe_lows, safe_highs] = black_box(&mut lent_too);
+        assert!(bounds(black_box(&air), &low_ratios, &high_ratios, lows, highs, safe_lows, safe_highs).is_ok());
+    };
+    measure(&mut library, &mut second)
+}
+
 fn main() {
     let mut random = Random::new(512);
     println!("Nanoseconds for each call; ratio is library to second implementation; the last two columns are nanoseconds for each node.");
-    println!("call  tree    cells nodes      library       second   ratio library/node  second/node");
+    println!("call   tree    cells nodes      library       second   ratio library/node  second/node");
     for call in ["step", "file"] {
         for cells in [8, 64, 512] {
             for (shape, parents) in [("flat", flat(cells)), ("binary", binary(cells)), ("chain", chain(cells))] {
                 let (field, total) = make_field(&mut random, parents, cells);
                 let times = if call == "step" { measure_step(&mut random, &field, total) } else { measure_file(&field, total) };
-                print_line(call, shape, &field, times);
+                print_line(call, shape, cells, field.parents.len(), times);
             }
         }
+    }
+    // Without a tree the cells are all the nodes.
+    for cells in [8, 64, 512] {
+        print_line("bounds", "none", cells, cells, measure_bounds(&mut random, cells));
     }
 }

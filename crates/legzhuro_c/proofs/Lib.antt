@@ -3,4 +3,5 @@ pub mod FileCallLaws
 pub mod AnswerLaws
 pub mod OwnLaws
 pub mod DeskLaws
+pub mod BoundsLaws
 pub mod RunLaws

@@ -18,6 +18,7 @@ use Rattle.qlt_spec.specs.Operation.{repair, Leaves}
 use Rattle.kept_spec.specs.declared.Balance.{Balance}
 use Rattle.kept_spec.specs.Open.{openVerdict, openBalance}
 use Rattle.kept_spec.specs.Step.{StepCall, newTotal, repairCall, stepVerdict, StepResult}
+use Rattle.bounds_spec.specs.Bounds.{Bounds, BoundsCall, converted, boundsVerdict}
 use Rattle.doubles_spec.specs.declared.CellDoubles.{CellDoubles}
 use Rattle.doubles_spec.specs.declared.CellUnits.{CellUnits}
 use Rattle.doubles_spec.specs.Import.{importVerdict, importUnits}
@@ -108,6 +109,11 @@ pub record StepReturns (c : StepCall) (answer : List ℕ) (r : ℕ) (kept : List
   pub returns : r ≡ returned (stepCallVerdict c answer)
   pub leaves : Leaves (stepCallVerdict c answer) (repairCall c) kept scratch
   pub writes : answer′ ≡ after (stepCallVerdict c answer) (written answer 0 (repairWords (repair (c .lists) (newTotal c)))) answer
+
+-- Bounds: it tells nothing beside the four lists
+pub record BoundsReturns (c : BoundsCall) (r : ℕ) (left : Bounds) : Type 0 where
+  pub returns : r ≡ returned (boundsVerdict c)
+  pub writes : left ≡ after (boundsVerdict c) (converted (c .given)) (c .lent)
 
 -- Import: the five units go to the first five entries
 unfoldable pub importCallVerdict : CellDoubles → ℕ → List ℤ → Checked

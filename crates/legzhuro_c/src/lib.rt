@@ -1,11 +1,13 @@
-// The calls from C, a static library. `include/legzhuro.h` documents them. Public: the nine functions here; what they share is in `returns`
+// The calls from C, a static library. `include/legzhuro.h` documents them. Public: the ten functions here; what they share is in `returns`
 // and the work of the file call in `whole`. Relies on every operation and on `repair_file` and `numbers`.
 ghost use Rattle.caas_spec.specs.Operation.{splitCall};
 ghost use Rattle.qlt_spec.specs.Field.{lists};
 ghost use Rattle.kept_spec.specs.Step.{stepCall};
+ghost use Rattle.bounds_spec.specs.Bounds.{mixing, bounds, boundsCall};
 ghost use Rattle.files_spec.specs.WriteField.{fieldWriteCall};
-ghost use Rattle.legzhuro_c.specs.Calls.{ReconstructReturns, SplitReturns, OpenReturns, StepReturns, ImportReturns, ExportReturns, SingleReturns};
+ghost use Rattle.legzhuro_c.specs.Calls.{ReconstructReturns, SplitReturns, OpenReturns, StepReturns, BoundsReturns, ImportReturns, ExportReturns, SingleReturns};
 ghost use Rattle.legzhuro_c.specs.FileCalls.{WriteFieldReturns, ReadAnswerReturns};
+use bounds_spec::Bounded;
 use caas_spec::SplitAnswer;
 use doubles_spec::CellDoubles;
 use doubles_spec::Exported;
@@ -141,6 +143,38 @@ pub extern "C" fn legzhuro_step(
     match stepped {
         Stepped::Accepted { repair, balance: _ } => returns::put_repair(repair, answer),
         Stepped::Refused { number, place } => returns::refusal(number, place),
+    }
+}
+
+// Bounds.
+#[no_mangle]
+pub extern "C" fn legzhuro_bounds(
+    air: &[u32],
+    low_ratios: &[u32],
+    high_ratios: &[u32],
+    lows: &mut [u32],
+    highs: &mut [u32],
+    safe_lows: &mut [u32],
+    safe_highs: &mut [u32],
+) -> u64
+    ensures { λ r.
+        ⌜ BoundsReturns
+        (boundsCall (mixing (now (air .entry)) (now («low_ratios» .entry)) (now («high_ratios» .entry)))
+        (bounds (now (lows .entry)) (now (highs .entry)) (now («safe_lows» .entry)) (now («safe_highs» .entry)))) r
+        (bounds (now (lows .exit)) (now (highs .exit)) (now («safe_lows» .exit)) (now («safe_highs» .exit))) ⌝ }
+{
+    let bounded = bounds::bounds(
+        air,
+        low_ratios,
+        high_ratios,
+        lows,
+        highs,
+        safe_lows,
+        safe_highs,
+    );
+    match bounded {
+        Bounded::Done => 0,
+        Bounded::Refused { number, place } => returns::refusal(number, place),
     }
 }
 

@@ -2,6 +2,7 @@
 //! of the crate NAME must print; `expected CRATES` compares that of every program with the `stdout` that is stored beside it, and exits
 //! with status 0 only if all are the same. CRATES is the folder of the crates.
 
+mod bounds;
 mod doubles;
 mod files;
 mod kept;
@@ -19,7 +20,7 @@ use std::path::{Path, PathBuf};
 type Expected = fn(&Program) -> String;
 
 /// The test programs by their crates: the one place where these are named.
-const PROGRAMS: [(&str, Expected); 9] = [
+const PROGRAMS: [(&str, Expected); 10] = [
     ("split_test", split::expected),
     ("reconstruct_test", reconstruct::expected),
     ("kept_test", kept::expected),
@@ -29,6 +30,7 @@ const PROGRAMS: [(&str, Expected); 9] = [
     ("legzhuro", report::expected_listing),
     ("query_test", query::expected),
     ("legzhuro_query", query::expected_line),
+    ("bounds_test", bounds::expected),
 ];
 
 /// Compares an output with the one stored: the number of lines, or the first line that differs.

@@ -1,0 +1,3 @@
+-- Laws for the code.
+pub mod CheckLaws
+pub mod FillLaws

@@ -1,0 +1,88 @@
+-- The concrete calls of specs/Example.antt: their contracts hold by computing, so the theorems of consistency speak of them. Assumes nothing.
+use mathlib.Core.Path.{refl}
+use mathlib.Core.List.{[], _∷_}
+use Prim.Native.Nat.{ℕ, zero, suc, _<_}
+use native.Mathlib.Omega.{arith}
+use lib.IntN.{pos}
+use lib.ListN.{replicate}
+use Rattle.numbers.specs.Sums.{sumTo}
+use Rattle.numbers.specs.Lists.{listTo, written}
+use Rattle.numbers.specs.Signed.{minℤ, maxℤ}
+use Rattle.numbers.specs.Quota.{quota}
+use Rattle.numbers.specs.Checks.{eachFrom, firstFrom, checkCount}
+use Rattle.caas_spec.specs.Split.{clip, clipped, deficit, capacity, portion, firstShare, remainder, left, secondShare, shares, result}
+use Rattle.qlt_spec.specs.declared.Repair.{Repair}
+use Rattle.qlt_spec.specs.declared.Reconstructed.the-variants as repairs
+use Rattle.qlt_spec.specs.Tree.{leads, childOf, anyChild, nodeSum, parentOk, nodeOk, massFrom, massAt}
+use Rattle.qlt_spec.specs.Field.{outcome, outcomeNumber, lowIn, highIn, changeOf}
+use Rattle.qlt_spec.specs.Masses.{massBetween, groupOf, treeMass, treeMasses, sharedOf, treeShared}
+use Rattle.qlt_spec.specs.Checks.{checkNodes, checkLists, checkTree, boundsOrdered, checkOrder, checkSum, checkReach, checkShape, checkValues}
+use Rattle.qlt_spec.specs.Operation.{reconstructVerdict, repair, reconstructTells, cleared, ReconstructContract}
+use Rattle.kept_spec.specs.declared.Stepped.the-variants as steps
+use Rattle.kept_spec.specs.Open.{checkTotal}
+use Rattle.kept_spec.specs.Step.{checkSameScale, checkKept, stepVerdict, stepTells}
+use Rattle.kept_spec.specs.Account.{Event, Promised}
+use Rattle.bounds_spec.specs.declared.Bounded.the-variants.{Done, Refused}
+use Rattle.bounds_spec.specs.Ratios.{ratioOf, lowMass, highMass, chosen}
+use Rattle.bounds_spec.specs.Bounds.{checkBoundsLengths, ratiosOk, checkRatios, boundsVerdict, boundsTells, BoundsContract}
+use Rattle.bounds_spec.specs.Consistency.{Uniform, Consistent}
+use Rattle.bounds_spec.specs.Example.{roundedCall, rounded, refusedCall, quarter, quarterBounds, quarterCall, repairCall, quarterStep}
+use Rattle.bounds_spec.proofs.ConsistencyLaws.{reconstruct-consistent, step-consistent}
+
+-- ---- conversions
+
+pub rounds : BoundsContract roundedCall Done rounded
+unfolding listTo eachFrom firstFrom checkCount lowMass highMass chosen checkBoundsLengths ratiosOk checkRatios boundsVerdict boundsTells
+rounds = record { answers = refl; writes = refl }
+
+pub refuses : BoundsContract refusedCall (Refused 18 1) (refusedCall .lent)
+unfolding listTo eachFrom firstFrom checkCount lowMass highMass chosen checkBoundsLengths ratiosOk checkRatios boundsVerdict boundsTells
+refuses = record { answers = refl; writes = refl }
+
+pub converts : BoundsContract quarterCall Done quarterBounds
+unfolding listTo eachFrom firstFrom checkCount lowMass highMass chosen checkBoundsLengths ratiosOk checkRatios boundsVerdict boundsTells
+converts = record { answers = refl; writes = refl }
+
+-- ---- the field with every ratio a quarter
+
+two : (P : ℕ → Type 0) → P 0 → P 1 → (c : ℕ) → c < 2 → P c
+two P a b zero l = a
+two P a b (suc zero) l = b
+two P a b (suc (suc c)) l = absurd (omega arith)
+
+pub uniform : Uniform quarter (ratioOf 262144)
+uniform = record { low = two _ refl refl; high = two _ refl refl; even = two _ refl refl }
+
+abbrev repaired : Repair
+repaired = record { outcome = 0; total = 3; change = 13; shared = 0 }
+
+abbrev pub stepped : Event
+stepped =
+    record {
+      call = quarterStep;
+      answer = steps.Accepted repaired (record { total = 3; scale = 20 });
+      kept = 1 ∷ 2 ∷ [];
+      scratch = replicate 18 (pos 0);
+    }
+
+repairs-it : ReconstructContract repairCall (repairs.Done repaired) (1 ∷ 2 ∷ []) (replicate 18 (pos 0))
+unfolding sumTo listTo written minℤ maxℤ quota eachFrom firstFrom checkCount clip clipped deficit capacity portion firstShare remainder left
+    secondShare shares result leads childOf anyChild nodeSum parentOk nodeOk massFrom massAt massBetween outcome outcomeNumber lowIn highIn changeOf groupOf
+    treeMass treeMasses sharedOf treeShared checkNodes checkLists checkTree boundsOrdered checkOrder checkSum checkReach checkShape checkValues repair cleared
+    reconstructVerdict reconstructTells
+repairs-it = record { answers = refl; leaves = record { writes = refl; clears = refl } }
+
+steps-it : Promised stepped
+unfolding sumTo listTo written minℤ maxℤ quota eachFrom firstFrom checkCount clip clipped deficit capacity portion firstShare remainder left
+    secondShare shares result leads childOf anyChild nodeSum parentOk nodeOk massFrom massAt massBetween outcome outcomeNumber lowIn highIn changeOf groupOf
+    treeMass treeMasses sharedOf treeShared checkNodes checkLists checkTree boundsOrdered checkOrder checkSum checkReach checkShape checkValues repair cleared
+    checkTotal checkSameScale checkKept stepVerdict stepTells
+steps-it = record { answers = refl; leaves = record { writes = refl; clears = refl } }
+
+-- so the theorems speak of it
+pub example-repaired : Consistent quarter (ratioOf 262144) (1 ∷ 2 ∷ [])
+example-repaired = reconstruct-consistent converts uniform repaired refl repairs-it
+
+pub example-stepped : Consistent quarter (ratioOf 262144) (1 ∷ 2 ∷ [])
+unfolding stepTells
+example-stepped = step-consistent converts uniform stepped _ refl steps-it refl
