@@ -31,17 +31,10 @@ use Rattle.bounds_spec.proofs.ConsistencyLaws.{reconstruct-consistent, 
 
 -- ---- conversions
 
-pub rounds : BoundsContract roundedCall Done rounded
+-- one that rounds, one that is refused, and that of the field below
+pub conversions : BoundsContract roundedCall Done rounded × BoundsContract refusedCall (Refused 18 1) (refusedCall .lent) × BoundsContract quarterCall Done quarterBounds
 unfolding listTo eachFrom firstFrom checkCount lowMass highMass chosen checkBoundsLengths ratiosOk checkRatios boundsVerdict boundsTells
-rounds = record { answers = refl; writes = refl }
-
-pub refuses : BoundsContract refusedCall (Refused 18 1) (refusedCall .lent)
-unfolding listTo eachFrom firstFrom checkCount lowMass highMass chosen checkBoundsLengths ratiosOk checkRatios boundsVerdict boundsTells
-refuses = record { answers = refl; writes = refl }
-
-pub converts : BoundsContract quarterCall Done quarterBounds
-unfolding listTo eachFrom firstFrom checkCount lowMass highMass chosen checkBoundsLengths ratiosOk checkRatios boundsVerdict boundsTells
-converts = record { answers = refl; writes = refl }
+conversions = (record { answers = refl; writes = refl }, record { answers = refl; writes = refl }, record { answers = refl; writes = refl })
 
 -- ---- the field with every ratio a quarter
 
@@ -65,24 +58,20 @@ stepped =
       scratch = replicate 18 (pos 0);
     }
 
-repairs-it : ReconstructContract repairCall (repairs.Done repaired) (1 ∷ 2 ∷ []) (replicate 18 (pos 0))
+repairs-it : ReconstructContract repairCall (repairs.Done repaired) (1 ∷ 2 ∷ []) (replicate 18 (pos 0)) × Promised stepped
 unfolding sumTo listTo written minℤ maxℤ quota eachFrom firstFrom checkCount clip clipped deficit capacity portion firstShare remainder left
     secondShare shares result leads childOf anyChild nodeSum parentOk nodeOk massFrom massAt massBetween outcome outcomeNumber lowIn highIn changeOf groupOf
     treeMass treeMasses sharedOf treeShared checkNodes checkLists checkTree boundsOrdered checkOrder checkSum checkReach checkShape checkValues repair cleared
-    reconstructVerdict reconstructTells
-repairs-it = record { answers = refl; leaves = record { writes = refl; clears = refl } }
-
-steps-it : Promised stepped
-unfolding sumTo listTo written minℤ maxℤ quota eachFrom firstFrom checkCount clip clipped deficit capacity portion firstShare remainder left
-    secondShare shares result leads childOf anyChild nodeSum parentOk nodeOk massFrom massAt massBetween outcome outcomeNumber lowIn highIn changeOf groupOf
-    treeMass treeMasses sharedOf treeShared checkNodes checkLists checkTree boundsOrdered checkOrder checkSum checkReach checkShape checkValues repair cleared
-    checkTotal checkSameScale checkKept stepVerdict stepTells
-steps-it = record { answers = refl; leaves = record { writes = refl; clears = refl } }
+    reconstructVerdict reconstructTells checkTotal checkSameScale checkKept stepVerdict stepTells
+repairs-it = (
+  record { answers = refl; leaves = record { writes = refl; clears = refl } },
+  record { answers = refl; leaves = record { writes = refl; clears = refl } },
+)
 
 -- so the theorems speak of it
 pub example-repaired : Consistent quarter (ratioOf 262144) (1 ∷ 2 ∷ [])
-example-repaired = reconstruct-consistent converts uniform repaired refl repairs-it
+example-repaired = reconstruct-consistent (conversions .2) uniform repaired refl (repairs-it .0)
 
 pub example-stepped : Consistent quarter (ratioOf 262144) (1 ∷ 2 ∷ [])
 unfolding stepTells
-example-stepped = step-consistent converts uniform stepped _ refl steps-it refl
+example-stepped = step-consistent (conversions .2) uniform stepped _ refl (repairs-it .1) refl
