@@ -16,6 +16,7 @@ ghost use lib.ListN.{length};
 use bounds_spec::Bounded;
 use input::Case;
 use kept_spec::Balance;
+use qlt_spec::SCRATCH_PER_NODE;
 use test_support::input::later;
 use test_support::input::skip;
 use test_support::runs::fill;
@@ -82,7 +83,7 @@ fn step(
         &weights[0..n],
         &parents[0..n + 1],
         &mut kept[0..n],
-        &mut scratch[0..6 * (n + 1)],
+        &mut scratch[0..SCRATCH_PER_NODE * (n + 1)],
     );
 }
 

@@ -25,7 +25,7 @@ use Rattle.field_checks.specs.Lists.{Sized, Marks}
 -- ---- 1 to 3
 
 -- checks with one number and place, one after another, are one check
-pub lists-is : (n m k l h sl sh w s : ℕ) → both (checkLength k n) (both (checkLength l n) (both (checkLength h n) (both (checkLength sl n) (both (checkLength sh n) (both (checkLength w n) (unless (leb (scratchPerNode * m) s) 3 0)))))) ≡ checkLists n m k l h sl sh w s
+pub lists-is : (n m k l h sl sh w s : ℕ) → both (checkLength k n) (both (checkLength l n) (both (checkLength h n) (both (checkLength sl n) (both (checkLength sh n) (both (checkLength w n) (unless (leb (scratchPerNode * m) s) 3 0)))))) ≡ checkLists scratchPerNode n m k l h sl sh w s
 unfolding checkLists
 lists-is n m k l h sl sh w s =
     then-length k n _ _ (then-length l n _ _ (then-length h n _ _ (then-length sl n _ _ (then-length sh n _ _ (then-length w n _ _ refl)))))

@@ -41,7 +41,7 @@ fn check_lists(
     scratch: usize,
 ) -> Checked
     requires { ⌜ m ≤ 1024 ⌝ }
-    ensures { λ r. ⌜ r ≡ checkLists n m masses lows highs «safe_lows» «safe_highs» weights scratch ⌝ }
+    ensures { λ r. ⌜ r ≡ checkLists scratchPerNode n m masses lows highs «safe_lows» «safe_highs» weights scratch ⌝ }
 {
     then(
         check_length(masses, n),
@@ -73,7 +73,7 @@ pub fn check_shape(
     weights: usize,
     scratch: usize,
 ) -> Checked
-    ensures { λ r. ⌜ r ≡ checkShape n m masses lows highs «safe_lows» «safe_highs» weights scratch ⌝ }
+    ensures { λ r. ⌜ r ≡ checkShape scratchPerNode n m masses lows highs «safe_lows» «safe_highs» weights scratch ⌝ }
 {
     let count = check_count(n);
     if let Checked::Fail { number, place } = count {

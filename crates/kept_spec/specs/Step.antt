@@ -10,9 +10,9 @@ use Rattle.numbers.specs.declared.Checked.{Checked}
 use Rattle.numbers.specs.Signed.{over}
 use Rattle.numbers.specs.Checks.{Answered, accepted, refused, unless, first, Rule, rule, maxTotal}
 use Rattle.qlt_spec.specs.declared.Repair.{Repair}
-use Rattle.qlt_spec.specs.Field.{Lists}
+use Rattle.qlt_spec.specs.Field.{Lists, scratchPerNode}
 use Rattle.numbers.specs.Lists.{sum}
-use Rattle.qlt_spec.specs.Checks.{shapeOf, checkValues, checkReach}
+use Rattle.qlt_spec.specs.Checks.{shapeWith, checkValues, checkReach}
 use Rattle.qlt_spec.specs.Operation.{ReconstructCall, reconstructCall, shapeRules, valueRules, reachRule, ShapeFits, ValuesFit, Reaches, repair, RepairTells}
 use Rattle.kept_spec.specs.declared.Balance.{Balance}
 use Rattle.kept_spec.specs.declared.Stepped.{Stepped}
@@ -53,16 +53,19 @@ checkSameScale k b = unless (leb k 30 && eqb k b) 17 0
 unfoldable pub checkKept : List ℕ → ℕ → Checked
 checkKept kept total = unless (eqb (sum kept) total) 12 0
 
--- 1 to 3, the kept list counted under 3; 17; 4 to 7; 12; 13; 8
-abbrev pub stepChecks : StepCall → List Checked
-stepChecks c =
-    shapeOf (length (c .kept)) (c .lists) (length (c .scratch))
+-- 1 to 3, the kept list counted under 3; 17; 4 to 7; 12; 13; 8, where 3 asks for p numbers of scratch for each node
+abbrev pub stepChecksWith : ℕ → StepCall → List Checked
+stepChecksWith p c =
+    shapeWith p (length (c .kept)) (c .lists) (length (c .scratch))
     ∷ checkSameScale (c .scale) (c .balance .scale)
     ∷ checkValues (c .lists)
     ∷ checkKept (c .kept) (c .balance .total)
     ∷ checkTotal (next c)
     ∷ checkReach (c .lists .safeLows) (c .lists .safeHighs) (newTotal c)
     ∷ []
+
+abbrev pub stepChecks : StepCall → List Checked
+stepChecks c = stepChecksWith scratchPerNode c
 
 unfoldable pub stepVerdict : StepCall → Checked
 stepVerdict c = first (stepChecks c)

@@ -19,6 +19,7 @@ use kept_spec::Balance;
 use kept_spec::Opened;
 use kept_spec::Stepped;
 use numbers::Checked;
+use qlt_spec::MAX_SCRATCH;
 
 mod returns;
 mod whole;
@@ -36,7 +37,7 @@ pub extern "C" fn legzhuro_reconstruct(file: &[u8], answer: &mut [u8]) -> u32
     let mut weights = [0u32; 512];
     let mut parents = [0u32; 1024];
     let mut masses = [0u32; 512];
-    let mut scratch = [0i64; 6144];
+    let mut scratch = [0i64; MAX_SCRATCH];
     whole::answer_file(
         file,
         answer,

@@ -1,6 +1,7 @@
 // The file call over lent lists that have room for every field.
 ghost use mathlib.Core.Path.{_≡_};
 ghost use lib.ListN.{length};
+ghost use Rattle.qlt_spec.specs.Field.{maxScratch};
 ghost use Rattle.legzhuro_c.specs.Calls.{writtenNumber, ReconstructReturns};
 use answer_file::write_answer;
 use files_spec::AnswerWritten;
@@ -32,7 +33,7 @@ pub fn answer_file(
 ) -> u32
     requires { ⌜ (length (now targets) ≡ 512) × (length (now lows) ≡ 512) × (length (now highs) ≡ 512) × (length (now «safe_lows») ≡ 512) ⌝ }
     requires { ⌜ (length (now «safe_highs») ≡ 512) × (length (now weights) ≡ 512) × (length (now parents) ≡ 1024) × (length (now masses) ≡ 512) ×
-        (length (now scratch) ≡ 6144) ⌝ }
+        (length (now scratch) ≡ maxScratch) ⌝ }
     ensures { λ r. ⌜ ReconstructReturns (now (file .entry)) (now (answer .entry)) r (now (answer .exit)) ⌝ }
 {
     let repaired = repair_file(

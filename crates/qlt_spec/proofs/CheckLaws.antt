@@ -17,7 +17,7 @@ use Rattle.numbers.proofs.TestLaws.{clash, and-means, lt-means, le-means, eq-me
 use Rattle.numbers.proofs.CheckLaws.{decides-unless, decides-from, decides-then, decides-none, count-decides}
 use Rattle.qlt_spec.specs.Tree.{childOf, anyChild, parentOk, nodeOk, NodeRules, Valid}
 use Rattle.qlt_spec.specs.Field.{Lists, cells, nodes, scratchPerNode, field, Ordered}
-use Rattle.qlt_spec.specs.Checks.{checkNodes, checkLists, checkTree, boundsOrdered, checkOrder, checkSum, checkReach, checkShape, shapeOf, checkValues}
+use Rattle.qlt_spec.specs.Checks.{checkNodes, checkLists, checkTree, boundsOrdered, checkOrder, checkSum, checkReach, checkShape, shapeWith, shapeOf, checkValues}
 use Rattle.qlt_spec.specs.Operation.{FieldLengths, shapeRules, valueRules, reachRule, ShapeFits, ValuesFit, Reaches}
 
 -- ---- 1 to 3
@@ -27,7 +27,7 @@ unfolding checkNodes
 nodes-decides n m = decides-unless _ 2 (and-means (le-means n m) (le-means m 1024))
 
 module _ (f : Lists) (k s : ℕ) where
-  pub lists-decides : Decides (checkLists (cells f) (nodes f) k (length (f .lows)) (length (f .highs)) (length (f .safeLows)) (length (f .safeHighs)) (length (f .weights)) s) (rule 3 (FieldLengths f k s))
+  pub lists-decides : Decides (checkLists scratchPerNode (cells f) (nodes f) k (length (f .lows)) (length (f .highs)) (length (f .safeLows)) (length (f .safeHighs)) (length (f .weights)) s) (rule 3 (FieldLengths f k s))
   unfolding checkLists
   lists-decides =
       let t =
@@ -60,6 +60,11 @@ module _ (f : Lists) (k s : ℕ) where
 
   pub shape-fits : (shapeOf k f s ≡ Pass) ↔ ShapeFits f k s
   shape-fits = (λ e. shape-holds .0 (shape-decides .passes .0 e), λ r. shape-decides .passes .1 (shape-holds .1 r))
+
+-- the scratch counts by the test of 3 alone
+pub shape-by : (p p′ k : ℕ) (f : Lists) (s s′ : ℕ) → leb (p * nodes f) s ≡ leb (p′ * nodes f) s′ → shapeWith p k f s ≡ shapeWith p′ k f s′
+unfolding checkShape checkLists
+shape-by p p′ k f s s′ e = rw e
 
 -- ---- 4
 

@@ -4,13 +4,14 @@ use mathlib.Core.Path.{_≡_, refl, sym, _∙_, ap, subst}
 use mathlib.Core.Logic.{_↔_}
 use mathlib.Core.List.{List, [], _∷_}
 use Prim.Native.Nat.{ℕ, _*_, _≤_}
+use lib.Dec.{leb}
 use lib.IntN.{ℤ}
 use lib.ListN.{length}
 use Rattle.numbers.specs.declared.Checked.{Checked}
 use Rattle.numbers.specs.declared.Checked.the-variants.{Pass, Fail}
 use Rattle.numbers.specs.Sums.{ℕ-adds, sumTo}
 use Rattle.numbers.specs.Lists.{at}
-use Rattle.numbers.specs.Checks.{Answered, accepted, refused, answered, after, both, DecidesAll, Broken, RefuseWith}
+use Rattle.numbers.specs.Checks.{Answered, accepted, refused, answered, after, first, both, DecidesAll, Broken, RefuseWith}
 use Rattle.numbers.proofs.TestLaws.{injective}
 use Rattle.numbers.proofs.CheckLaws.{answered-accepted, answered-refused, after-fail, on, last, both-first, both-second, decides-append}
 use Rattle.numbers.proofs.ChainLaws.{refuse-with}
@@ -20,11 +21,11 @@ use Rattle.qlt_spec.specs.declared.Reconstructed.the-variants.{Done, Ref
 use Rattle.qlt_spec.specs.Tree.{Valid}
 use Rattle.qlt_spec.specs.Field.{Lists, cells, nodes, scratchPerNode, field}
 use Rattle.qlt_spec.specs.Masses.{treeMasses}
-use Rattle.qlt_spec.specs.Checks.{shapeOf, checkValues, checkReach}
-use Rattle.qlt_spec.specs.Operation.{ReconstructCall, reconstructVerdict, shapeRules, valueRules, reconstructRules, ShapeFits, ValuesFit, ReconstructFits, repair, reconstructTells, reconstructAnswer, cleared, Leaves, RepairTells, ReconstructContract}
+use Rattle.qlt_spec.specs.Checks.{shapeWith, shapeOf, checkValues, checkReach}
+use Rattle.qlt_spec.specs.Operation.{ReconstructCall, reconstructCall, reconstructChecksWith, reconstructVerdict, shapeRules, valueRules, reconstructRules, ShapeFits, ValuesFit, ReconstructFits, repair, reconstructTells, reconstructAnswer, cleared, Leaves, RepairTells, ReconstructContract}
 use Rattle.qlt_spec.specs.Facts.{sharedBy, FieldFacts}
 use Rattle.qlt_spec.proofs.FactLaws.{facts}
-use Rattle.qlt_spec.proofs.CheckLaws.{shape-decides, shape-fits, values-decides, values-fit, reaches-decides, reaches, valid}
+use Rattle.qlt_spec.proofs.CheckLaws.{shape-decides, shape-fits, shape-by, values-decides, values-fit, reaches-decides, reaches, valid}
 
 pub fits-valid : {f : Lists} {k s : ℕ} → ShapeFits f k s → ValuesFit f → Valid (at (f .parents)) (cells f) (nodes f)
 fits-valid h r = valid (h .some) (h .nodes-room) (r .tree)
@@ -70,6 +71,15 @@ module _ (c : ReconstructCall) where
   pub reconstruct-numbers : RefuseWith (reconstructRules c) (1 ∷ 2 ∷ 3 ∷ 4 ∷ 5 ∷ 6 ∷ 7 ∷ 8 ∷ [])
   unfolding shapeRules valueRules
   reconstruct-numbers = refuse-with (reconstructRules c) _ refl refl
+
+-- the checks look at the masses by their length, and at the scratch by the test of 3 alone
+pub checks-by :
+    (p p′ : ℕ) (f : Lists) (M : ℕ) (masses masses′ : List ℕ) (scratch scratch′ : List ℤ)
+    → length masses ≡ length masses′ → leb (p * nodes f) (length scratch) ≡ leb (p′ * nodes f) (length scratch′)
+    → first (reconstructChecksWith p (reconstructCall f M masses scratch)) ≡ first (reconstructChecksWith p′ (reconstructCall f M masses′ scratch′))
+checks-by p p′ f M masses masses′ scratch scratch′ e h =
+    ap (λ v. first (v ∷ checkValues f ∷ checkReach (f .safeLows) (f .safeHighs) M ∷ []))
+    (ap (λ k. shapeWith p k f (length scratch)) e ∙ shape-by p p′ (length masses′) f (length scratch) (length scratch′) h)
 
 -- ---- the answer
 

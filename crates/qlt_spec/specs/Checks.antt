@@ -14,11 +14,11 @@ use Rattle.qlt_spec.specs.Field.{Lists, cells, nodes, scratchPerNode}
 unfoldable pub checkNodes : ℕ → ℕ → Checked
 checkNodes n m = unless (leb n m && leb m 1024) 2 0
 
--- 3: a list of another length (`masses` is that of the masses, or of the kept masses), or scratch under 6 × m
-unfoldable pub checkLists : (n m masses lows highs safeLows safeHighs weights scratch : ℕ) → Checked
-checkLists n m masses lows highs safeLows safeHighs weights scratch =
+-- 3: a list of another length (`masses` is that of the masses, or of the kept masses), or scratch under p × m, p numbers for each node
+unfoldable pub checkLists : (p n m masses lows highs safeLows safeHighs weights scratch : ℕ) → Checked
+checkLists p n m masses lows highs safeLows safeHighs weights scratch =
     unless
-    (eqb masses n && (eqb lows n && (eqb highs n && (eqb safeLows n && (eqb safeHighs n && (eqb weights n && leb (scratchPerNode * m) scratch))))))
+    (eqb masses n && (eqb lows n && (eqb highs n && (eqb safeLows n && (eqb safeHighs n && (eqb weights n && leb (p * m) scratch))))))
     3 0
 
 -- 4: the smallest node that breaks a rule of the tree
@@ -44,17 +44,20 @@ checkReach safeLows safeHighs M = unless (leb (sum safeLows) M && leb M (sum saf
 -- ---- the chains that operations are made of
 
 -- 1 to 3, of lengths alone
-abbrev pub shapeChecks : (n m masses lows highs safeLows safeHighs weights scratch : ℕ) → List Checked
-shapeChecks n m masses lows highs safeLows safeHighs weights scratch =
-    checkCount n ∷ checkNodes n m ∷ checkLists n m masses lows highs safeLows safeHighs weights scratch ∷ []
+abbrev pub shapeChecks : (p n m masses lows highs safeLows safeHighs weights scratch : ℕ) → List Checked
+shapeChecks p n m masses lows highs safeLows safeHighs weights scratch =
+    checkCount n ∷ checkNodes n m ∷ checkLists p n m masses lows highs safeLows safeHighs weights scratch ∷ []
 
-unfoldable pub checkShape : (n m masses lows highs safeLows safeHighs weights scratch : ℕ) → Checked
-checkShape n m masses lows highs safeLows safeHighs weights scratch =
-    first (shapeChecks n m masses lows highs safeLows safeHighs weights scratch)
+unfoldable pub checkShape : (p n m masses lows highs safeLows safeHighs weights scratch : ℕ) → Checked
+checkShape p n m masses lows highs safeLows safeHighs weights scratch =
+    first (shapeChecks p n m masses lows highs safeLows safeHighs weights scratch)
+
+abbrev pub shapeWith : ℕ → ℕ → Lists → ℕ → Checked
+shapeWith p masses f scratch =
+    checkShape p (cells f) (nodes f) masses (length (f .lows)) (length (f .highs)) (length (f .safeLows)) (length (f .safeHighs)) (length (f .weights)) scratch
 
 abbrev pub shapeOf : ℕ → Lists → ℕ → Checked
-shapeOf masses f scratch =
-    checkShape (cells f) (nodes f) masses (length (f .lows)) (length (f .highs)) (length (f .safeLows)) (length (f .safeHighs)) (length (f .weights)) scratch
+shapeOf masses f scratch = shapeWith scratchPerNode masses f scratch
 
 -- 4 to 7, of the field's values
 abbrev pub valueChecks : Lists → List Checked

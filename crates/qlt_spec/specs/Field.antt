@@ -2,7 +2,7 @@
 use mathlib.Core.Path.{_≡_}
 use mathlib.Core.Bool.{cond}
 use mathlib.Core.List.{List}
-use Prim.Native.Nat.{ℕ, suc, _+_, _-_, _≤_, _<_}
+use Prim.Native.Nat.{ℕ, suc, _+_, _-_, _*_, _≤_, _<_}
 use lib.Dec.{ltb}
 use lib.IntN.{ℤ, pos, negsuc, natAbs, _-ℤ_}
 use lib.ListN.{length}
@@ -59,6 +59,10 @@ field f =
 -- 01's scratch: so many signed 64-bit numbers for each node
 abbrev pub scratchPerNode : ℕ
 scratchPerNode = 6
+
+-- and that of a field of the most nodes
+abbrev pub maxScratch : ℕ
+maxScratch = scratchPerNode * 1024
 
 -- the sum over all cells
 abbrev pub sumCells : Field → (ℕ → ℕ) → ℕ

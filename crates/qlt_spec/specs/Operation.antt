@@ -13,7 +13,7 @@ use Rattle.qlt_spec.specs.declared.Reconstructed.the-variants.{Done, Ref
 use Rattle.qlt_spec.specs.Tree.{NodeRules}
 use Rattle.qlt_spec.specs.Field.{Lists, cells, nodes, scratchPerNode, field, Ordered, outcome, outcomeNumber, changeOf}
 use Rattle.qlt_spec.specs.Masses.{treeMass, treeMasses, treeShared}
-use Rattle.qlt_spec.specs.Checks.{shapeOf, checkValues, checkReach}
+use Rattle.qlt_spec.specs.Checks.{shapeWith, checkValues, checkReach}
 
 -- all that a call is given
 pub record ReconstructCall : Type 0 where
@@ -25,13 +25,16 @@ pub record ReconstructCall : Type 0 where
 abbrev pub reconstructCall : Lists → ℕ → List ℕ → List ℤ → ReconstructCall
 reconstructCall lists total masses scratch = record { lists = lists; total = total; masses = masses; scratch = scratch }
 
--- 1 to 3; 4 to 7; 8
-abbrev pub reconstructChecks : ReconstructCall → List Checked
-reconstructChecks c =
-    shapeOf (length (c .masses)) (c .lists) (length (c .scratch))
+-- 1 to 3; 4 to 7; 8, where 3 asks for p numbers of scratch for each node
+abbrev pub reconstructChecksWith : ℕ → ReconstructCall → List Checked
+reconstructChecksWith p c =
+    shapeWith p (length (c .masses)) (c .lists) (length (c .scratch))
     ∷ checkValues (c .lists)
     ∷ checkReach (c .lists .safeLows) (c .lists .safeHighs) (c .total)
     ∷ []
+
+abbrev pub reconstructChecks : ReconstructCall → List Checked
+reconstructChecks c = reconstructChecksWith scratchPerNode c
 
 unfoldable pub reconstructVerdict : ReconstructCall → Checked
 reconstructVerdict c = first (reconstructChecks c)
@@ -115,15 +118,22 @@ reconstructAnswer (refused number place) = Refused number place
 unfoldable pub cleared : ℕ → List ℤ → List ℤ
 cleared k s = written s 0 (listTo k (λ i. pos 0))
 
--- what a call leaves in its lists by a verdict: the masses of its field for its total and a cleared scratch, or both as they were
-pub record Leaves (v : Checked) (c : ReconstructCall) (masses : List ℕ) (scratch : List ℤ) : Type 0 where
+-- what a call leaves in its lists by a verdict: the masses of its field for its total and a scratch of which p numbers for each node are
+-- cleared, or both as they were
+pub record LeavesWith (p : ℕ) (v : Checked) (c : ReconstructCall) (masses : List ℕ) (scratch : List ℤ) : Type 0 where
   pub writes : masses ≡ after v (treeMasses (field (c .lists)) (c .total)) (c .masses)
-  pub clears : scratch ≡ after v (cleared (scratchPerNode * nodes (c .lists)) (c .scratch)) (c .scratch)
+  pub clears : scratch ≡ after v (cleared (p * nodes (c .lists)) (c .scratch)) (c .scratch)
+
+abbrev pub Leaves : Checked → ReconstructCall → List ℕ → List ℤ → Type 0
+Leaves v c masses scratch = LeavesWith scratchPerNode v c masses scratch
 
 -- and what it tells, of an operation that gives x where it is accepted
-pub record RepairTells {X : Type 0} (v : Checked) (c : ReconstructCall) (x : X) (told : Answered X) (masses : List ℕ) (scratch : List ℤ) : Type 0 where
+pub record RepairTellsWith (p : ℕ) {X : Type 0} (v : Checked) (c : ReconstructCall) (x : X) (told : Answered X) (masses : List ℕ) (scratch : List ℤ) : Type 0 where
   pub answers : told ≡ answered v x
-  pub leaves : Leaves v c masses scratch
+  pub leaves : LeavesWith p v c masses scratch
+
+abbrev pub RepairTells : {X : Type 0} → Checked → ReconstructCall → X → Answered X → List ℕ → List ℤ → Type 0
+RepairTells v c x told masses scratch = RepairTellsWith scratchPerNode v c x told masses scratch
 
 -- the contract of a repair
 abbrev pub RepairContract : Checked → ReconstructCall → Answered Repair → List ℕ → List ℤ → Type 0

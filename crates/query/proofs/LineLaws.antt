@@ -9,7 +9,7 @@ use Rattle.numbers.specs.declared.Checked.{Checked}
 use Rattle.numbers.specs.declared.Checked.the-variants.{Pass, Fail}
 use Rattle.numbers.specs.Checks.{both}
 use Rattle.numbers.proofs.CheckLaws.{both-pass}
-use Rattle.qlt_spec.specs.Field.{Lists, field, outcome, outcomeNumber}
+use Rattle.qlt_spec.specs.Field.{Lists, maxScratch, field, outcome, outcomeNumber}
 use Rattle.qlt_spec.specs.Operation.{reconstructVerdict}
 use Rattle.files_spec.specs.FieldFile.{fronts}
 use Rattle.files_spec.specs.ReadField.{fileCells, fileTotal, fileLists, readVerdict, ReadContract}
@@ -60,7 +60,7 @@ module _ (file : List ℕ) (cell : ℕ) (s : Lists) (roomy : Roomy s) where
       ∙ refused-other number place (fileLists file .safeLows) (fileLists file .safeHighs) (fileTotal file) (read-other file e))
 
   pub line-read :
-      {t : Lists} {n m M : ℕ} → ReadContract file s (read.Read n m M) t → (masses : List ℕ) (scratch : List ℤ) → length masses ≡ 512 → length scratch ≡ 6144
+      {t : Lists} {n m M : ℕ} → ReadContract file s (read.Read n m M) t → (masses : List ℕ) (scratch : List ℤ) → length masses ≡ 512 → length scratch ≡ maxScratch
       → lineBy (both (checkCell cell n) (reconstructVerdict (frontCall n m M t masses scratch))) (fronts n m t) M cell ≡ queryText file cell
   unfolding queryText queryVerdict
   line-read {t} {n} {m} {M} p masses scratch few wide =

@@ -4,7 +4,7 @@ ghost use mathlib.Core.Path.{_≡_};
 ghost use Prim.Native.Nat.{_≤_, _<_};
 ghost use lib.ListN.{length};
 ghost use Rattle.numbers.specs.Checks.{both};
-ghost use Rattle.qlt_spec.specs.Field.{lists};
+ghost use Rattle.qlt_spec.specs.Field.{lists, maxScratch};
 ghost use Rattle.qlt_spec.specs.Operation.{reconstructCall, reconstructVerdict};
 ghost use Rattle.files_spec.specs.FieldFile.{fronts};
 ghost use Rattle.repair_file.specs.RepairFile.{frontCall};
@@ -18,6 +18,7 @@ use field_file::read_field;
 use files_spec::FieldRead;
 use numbers::Checked;
 use numbers::checks::unless;
+use qlt_spec::MAX_SCRATCH;
 use reconstruct::verdict::verdict;
 use text::pieces::put_refusal;
 
@@ -159,7 +160,7 @@ fn put_query_with(
     requires { ⌜ (128 ≤ length (now out)) × (length (now targets) ≡ 512) × (length (now lows) ≡ 512) × (length (now highs) ≡ 512) ×
         (length (now «safe_lows») ≡ 512) ⌝ }
     requires { ⌜ (length (now «safe_highs») ≡ 512) × (length (now weights) ≡ 512) × (length (now parents) ≡ 1024) × (length (now masses) ≡ 512) ×
-        (length (now scratch) ≡ 6144) ⌝ }
+        (length (now scratch) ≡ maxScratch) ⌝ }
     ensures { λ r. ⌜ Put (now (out .entry)) (now (out .exit)) 0 r (queryText (now (file .entry)) cell) × (r ≤ 128) ⌝ }
 {
     let read = read_field(
@@ -210,7 +211,7 @@ pub fn put_query(file: &[u8], cell: usize, out: &mut [u8]) -> usize
     let mut weights = [0u32; 512];
     let mut parents = [0u32; 1024];
     let masses = [0u32; 512];
-    let mut scratch = [0i64; 6144];
+    let mut scratch = [0i64; MAX_SCRATCH];
     put_query_with(
         file,
         cell,

@@ -15,6 +15,7 @@ ghost use lib.ListN.{length};
 ghost use Rattle.reconstruct_test.specs.Cases.{InOrder};
 use input::Case;
 use qlt_spec::Reconstructed;
+use qlt_spec::SCRATCH_PER_NODE;
 use test_support::input::later;
 use test_support::input::skip;
 use test_support::runs::fill_targets;
@@ -69,7 +70,10 @@ fn run_lists(case: Case, targets: &[i32], values: &[u32], masses: &mut [u32], sc
         &mut scratch[0..k],
     );
     output::show(answer, &masses[0..n]);
-    output::show_scratch(6 * (case.parents - case.weights), &scratch[0..k]);
+    output::show_scratch(
+        SCRATCH_PER_NODE * (case.parents - case.weights),
+        &scratch[0..k],
+    );
 }
 
 // Runs the case that starts at `at`. Returns where the next may start.

@@ -18,10 +18,10 @@ use Rattle.numbers.proofs.ListLaws.{length-listTo}
 use Rattle.numbers.proofs.PartLaws.{put-back, front-written}
 use Rattle.qlt_spec.specs.declared.Repair.{Repair}
 use Rattle.qlt_spec.specs.declared.Reconstructed.{Reconstructed}
-use Rattle.qlt_spec.specs.Field.{Lists, nodes, scratchPerNode, field}
+use Rattle.qlt_spec.specs.Field.{Lists, nodes, scratchPerNode, maxScratch, field}
 use Rattle.qlt_spec.specs.Masses.{treeMass, treeMasses}
-use Rattle.qlt_spec.specs.Checks.{checkLists, checkShape}
 use Rattle.qlt_spec.specs.Operation.{reconstructCall, reconstructVerdict, repair, reconstructTells, cleared, ReconstructContract}
+use Rattle.qlt_spec.proofs.OperationLaws.{checks-by}
 use Rattle.files_spec.specs.declared.FieldRead.{FieldRead}
 use Rattle.files_spec.specs.declared.FieldRead.the-variants as read
 use Rattle.files_spec.specs.ReadField.{fileCells, fileNodes, fileTotal, headVerdict, readVerdict, ReadFits, listsRead, ReadContract, fileLists}
@@ -70,8 +70,9 @@ pub verdict-lengths :
     (f : Lists) (M : ℕ) (masses masses′ : List ℕ) (scratch scratch′ : List ℤ)
     → length masses ≡ length masses′ → scratchPerNode * nodes f ≤ length scratch → scratchPerNode * nodes f ≤ length scratch′
     → reconstructVerdict (reconstructCall f M masses scratch) ≡ reconstructVerdict (reconstructCall f M masses′ scratch′)
-unfolding reconstructVerdict checkShape checkLists
-verdict-lengths f M masses masses′ scratch scratch′ e h h′ = rw (e, le-leb _ _ h, le-leb _ _ h′)
+unfolding reconstructVerdict
+verdict-lengths f M masses masses′ scratch scratch′ e h h′ =
+    checks-by scratchPerNode scratchPerNode f M masses masses′ scratch scratch′ e (le-leb _ _ h ∙ sym (le-leb _ _ h′))
 
 -- ---- the front of a list
 
@@ -155,12 +156,12 @@ module _ (file : List ℕ) (s : Lists) (roomy : Roomy s) where
     pub same-lists : fronts n m t ≡ fileLists file
     same-lists = let e = read-done p .1 in rw (e .0, e .1 .0, e .1 .1 .1) (fronts-read file s)
 
-    module _ (masses : List ℕ) (scratch : List ℤ) (few : length masses ≡ 512) (wide : length scratch ≡ 6144) where
+    module _ (masses : List ℕ) (scratch : List ℤ) (few : length masses ≡ 512) (wide : length scratch ≡ maxScratch) where
       -- Reconstruct's verdict on them is that of the file's call
       pub front-verdict : reconstructVerdict (frontCall n m M t masses scratch) ≡ reconstructVerdict (fileCall file)
       front-verdict =
           let e = read-done p .1 in
-          let z : scratchPerNode * nodes (fileLists file) ≤ 6144 = omega (arith, length-nodes file, fit .head .nodes-few) in
+          let z : scratchPerNode * nodes (fileLists file) ≤ maxScratch = omega (arith, length-nodes file, fit .head .nodes-few) in
           let l : length (take n masses) ≡ fileCells file = length-take-le n masses (omega (arith, e .0, fit .head .few)) ∙ e .0 in
           ap (λ f. reconstructVerdict (reconstructCall f M (take n masses) scratch)) same-lists
           ∙ ap (λ k. reconstructVerdict (reconstructCall (fileLists file) k (take n masses) scratch)) (e .1 .1 .0)

@@ -2,7 +2,7 @@
 ghost use mathlib.Core.Path.{_≡_};
 ghost use Prim.Native.Nat.{_≤_};
 ghost use lib.ListN.{length};
-ghost use Rattle.qlt_spec.specs.Field.{lists};
+ghost use Rattle.qlt_spec.specs.Field.{lists, maxScratch};
 ghost use Rattle.qlt_spec.specs.Operation.{reconstructTells};
 ghost use Rattle.repair_file.specs.RepairFile.{RepairsFile, RepairsFronts, fileTells, beside};
 use crate::FileRepaired;
@@ -75,7 +75,7 @@ pub fn repair_file(
 ) -> FileRepaired
     requires { ⌜ (length (now targets) ≡ 512) × (length (now lows) ≡ 512) × (length (now highs) ≡ 512) × (length (now «safe_lows») ≡ 512) ⌝ }
     requires { ⌜ (length (now «safe_highs») ≡ 512) × (length (now weights) ≡ 512) × (length (now parents) ≡ 1024) × (length (now masses) ≡ 512) ×
-        (length (now scratch) ≡ 6144) ⌝ }
+        (length (now scratch) ≡ maxScratch) ⌝ }
     ensures { λ r.
         ⌜ RepairsFile (now (file .entry))
         (lists (now (targets .entry)) (now (lows .entry)) (now (highs .entry)) (now («safe_lows» .entry)) (now («safe_highs» .entry))

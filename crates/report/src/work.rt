@@ -2,9 +2,11 @@
 ghost use mathlib.Core.Path.{_≡_};
 ghost use Prim.Native.Nat.{_≤_};
 ghost use lib.ListN.{length};
+ghost use Rattle.qlt_spec.specs.Field.{maxScratch};
 ghost use Rattle.text.specs.Text.{Put};
 ghost use Rattle.report.specs.Report.{reportText};
 use listing::lines::put_listing;
+use qlt_spec::MAX_SCRATCH;
 use repair_file::FileRepaired;
 use repair_file::repair::repair_file;
 use text::pieces::put_refusal;
@@ -26,7 +28,7 @@ fn put_report_with(
     requires { ⌜ (16384 ≤ length (now out)) × (length (now targets) ≡ 512) × (length (now lows) ≡ 512) × (length (now highs) ≡ 512) ×
         (length (now «safe_lows») ≡ 512) ⌝ }
     requires { ⌜ (length (now «safe_highs») ≡ 512) × (length (now weights) ≡ 512) × (length (now parents) ≡ 1024) × (length (now masses) ≡ 512) ×
-        (length (now scratch) ≡ 6144) ⌝ }
+        (length (now scratch) ≡ maxScratch) ⌝ }
     ensures { λ r. ⌜ Put (now (out .entry)) (now (out .exit)) 0 r (reportText (now (file .entry))) × (r ≤ 16384) ⌝ }
 {
     let answer = repair_file(
@@ -65,7 +67,7 @@ pub fn put_report(file: &[u8], out: &mut [u8]) -> usize
     let mut weights = [0u32; 512];
     let mut parents = [0u32; 1024];
     let mut masses = [0u32; 512];
-    let mut scratch = [0i64; 6144];
+    let mut scratch = [0i64; MAX_SCRATCH];
     put_report_with(
         file,
         out,
