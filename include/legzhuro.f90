@@ -17,7 +17,7 @@ module legzhuro
     integer, parameter, public :: legzhuro_max_nodes = 1024
     integer(c_int32_t), parameter, public :: legzhuro_max_total = 2147483647
     integer(c_int32_t), parameter, public :: legzhuro_max_scale = 30
-    integer, parameter, public :: legzhuro_scratch = 6 ! scratch numbers for each node
+    integer, parameter, public :: legzhuro_scratch = 4 ! scratch numbers for each node
     integer(c_int32_t), parameter, public :: legzhuro_ratio = 1048576 ! the parts of a mixing ratio; also the largest ratio
     integer, parameter, public :: legzhuro_max_field_file = 18432 ! bytes
     integer, parameter, public :: legzhuro_max_answer_file = 3072 ! bytes

@@ -5,8 +5,8 @@
  * otherwise no definition decides.
  *
  * Calls have no state of their own and may be made from several threads at once on lists that are not shared. Every call returns, whatever
- * numbers, bytes or doubles it is given. A refused call writes to no list. legzhuro_reconstruct needs some 70 KB of stack, legzhuro_split
- * some 25 KB.
+ * numbers, bytes or doubles it is given. A refused call writes to no list. legzhuro_reconstruct needs some 54 KB of stack, legzhuro_split
+ * some 17 KB.
  *
  * legzhuro_reconstruct returns 0 or the refusal's number. The other calls return 0, or the refusal's number in the low 32 bits and its
  * place in the high 32: LEGZHURO_NUMBER and LEGZHURO_PLACE take them apart. A refusal is that of the first check that fails; each call
@@ -14,7 +14,7 @@
  *
  *    1  no items or cells, or more than 512
  *    2  fewer nodes than cells, or more than 1024
- *    3  a list of another length, scratch under 6 numbers for each node, or a list or buffer for the answer that is too short; in
+ *    3  a list of another length, scratch under 4 numbers for each node, or a list or buffer for the answer that is too short; in
  *       legzhuro_write_field a list or buffer that is too short for the cells and nodes
  *    4  the parents are no tree (place: the smallest node that breaks a rule)
  *    5  crossed bounds; in legzhuro_split also a low below 0 (place: the first item or cell)
@@ -50,7 +50,7 @@ extern "C" {
 #define LEGZHURO_MAX_NODES 1024
 #define LEGZHURO_MAX_TOTAL 2147483647 /* also the most that highs, safe highs or weights add up to */
 #define LEGZHURO_MAX_SCALE 30
-#define LEGZHURO_SCRATCH 6            /* scratch numbers for each node */
+#define LEGZHURO_SCRATCH 4            /* scratch numbers for each node */
 #define LEGZHURO_RATIO 1048576        /* the parts of a mixing ratio; also the largest ratio */
 #define LEGZHURO_MAX_FIELD_FILE 18432 /* bytes */
 #define LEGZHURO_MAX_ANSWER_FILE 3072 /* bytes */
@@ -111,8 +111,8 @@ uint64_t legzhuro_open(const uint32_t *kept, size_t kept_len, uint32_t scale, ui
  * other lists are the new field: cell c would like targets[c] (transport may undershoot 0), should lie between lows[c] and highs[c], must lie
  * between safe_lows[c] and safe_highs[c], and shares by weights[c]; parents[v] is the parent of node v, where nodes 0 to cells - 1 are the
  * cells and the last node, its own parent, is the root. The number of cells is the length of `targets`, that of nodes the length of `parents`;
- * `kept` and the other five lists must have one entry for each cell, `scratch` six or more for each node.
- * After an accepted step `kept` holds the new masses; the first six entries of `scratch` for each node are 0, later ones are left alone;
+ * `kept` and the other five lists must have one entry for each cell, `scratch` four or more for each node.
+ * After an accepted step `kept` holds the new masses; the first four entries of `scratch` for each node are 0, later ones are left alone;
  * answer[0] is the outcome (0: within the bounds, 1: between safe low and low, 2: between high and safe high), answer[1] the new total,
  * answer[2] the change, the sum over cells of the absolute mass minus target, answer[3] the sum shared out, that over inner nodes of the size
  * of what is missing or too much when the node's mass is split among its children (deficit[0] of legzhuro_split), 0 for a field of one node;

@@ -1,10 +1,10 @@
 //! Split, Open, Step, Import and both exports through the calls from C, compared with the second implementation: the value returned and
-//! every lent list at exit, entry by entry.
+//! every lent list at exit, entry by entry. Step is also held to its version before ticket 9 of 02.
 
 use crate::calls;
 use crate::doubles;
 use crate::from_c::{self, returned};
-use crate::operations::{Balance, Refusal, LIMIT, MAX_SCALE};
+use crate::operations::{Balance, Refusal, FORMER_SCRATCH_PER_NODE, LIMIT, MAX_SCALE, SCRATCH_PER_NODE};
 use crate::random::{self, Random};
 use crate::shared::shared_by_masses;
 use crate::tally::Tally;
@@ -244,22 +244,30 @@ pub struct StepExit {
     pub answer: Vec<u64>,
 }
 
-impl StepExit {
-    fn entry(call: &StepCall) -> StepExit {
-        StepExit { returned: 0, kept: call.kept.clone(), scratch: call.scratch.clone(), answer: call.answer.clone() }
-    }
+/// Runs the second implementation, with so many scratch numbers for each node.
+fn second_step<const PER_NODE: usize>(workspace: &mut Workspace, call: &StepCall) -> (Result<(), Refusal>, StepExit) {
+    let &StepCall { balance, source, scale, .. } = call;
+    let (mut kept, mut scratch, mut answer) = (call.kept.clone(), call.scratch.clone(), call.answer.clone());
+    let lists = call.field.lists();
+    let result = from_c::step_by::<PER_NODE>(workspace, balance, &mut kept, source, scale, &lists, &mut scratch, &mut answer);
+    (result, StepExit { returned: returned(result), kept, scratch, answer })
+}
+
+/// Runs the library, with the scratch given.
+fn library_step(call: &StepCall, scratch: &[i64]) -> StepExit {
+    let &StepCall { balance, source, scale, .. } = call;
+    let (mut kept, mut scratch, mut answer) = (call.kept.clone(), scratch.to_vec(), call.answer.clone());
+    let returned = calls::step(balance, &mut kept, source, scale, &call.field.lists(), &mut scratch, &mut answer);
+    StepExit { returned, kept, scratch, answer }
 }
 
 /// Runs both sides; returns the exits of the second implementation and of the library.
 pub fn compare_step(tally: &mut Tally, workspace: &mut Workspace, call: &StepCall) -> (StepExit, StepExit) {
-    let (mut mine, mut theirs) = (StepExit::entry(call), StepExit::entry(call));
-    let &StepCall { balance, source, scale, .. } = call;
-    let lists = call.field.lists();
-    let result = from_c::step(workspace, balance, &mut mine.kept, source, scale, &lists, &mut mine.scratch, &mut mine.answer);
-    mine.returned = returned(result);
-    theirs.returned = calls::step(balance, &mut theirs.kept, source, scale, &lists, &mut theirs.scratch, &mut theirs.answer);
+    let (result, mine) = second_step::<SCRATCH_PER_NODE>(workspace, call);
+    let theirs = library_step(call, &call.scratch);
     tally.outcome(&result.map(|()| mine.answer[0] as u32));
     tally.input(mine == theirs, || format!("step {call:?}: second implementation {mine:?}, library {theirs:?}"));
+    compare_former(tally, workspace, call, &theirs);
     if (mine.returned, theirs.returned) == (0, 0) {
         let shared = shared_by_masses(&call.field, theirs.answer[0], &theirs.kept);
         if theirs.answer[3] != shared {
@@ -267,6 +275,39 @@ pub fn compare_step(tally: &mut Tally, workspace: &mut Workspace, call: &StepCal
         }
     }
     (mine, theirs)
+}
+
+/// How many scratch numbers so many nodes need, and how many they needed before ticket 9.
+fn needed(nodes: usize) -> (usize, usize) {
+    (SCRATCH_PER_NODE * nodes, FORMER_SCRATCH_PER_NODE * nodes)
+}
+
+/// If the scratch is long enough for the version before ticket 9, the library gives what that version gives, but for the numbers that only
+/// that version clears; and with the scratch cut to what is needed now the library gives the same again.
+fn compare_former(tally: &mut Tally, workspace: &mut Workspace, call: &StepCall, exit: &StepExit) {
+    let (now, formerly) = needed(call.field.parents.len());
+    if call.scratch.len() < formerly {
+        return;
+    }
+    let (_, mut former) = second_step::<FORMER_SCRATCH_PER_NODE>(workspace, call);
+    former.scratch[now..formerly].copy_from_slice(&call.scratch[now..formerly]);
+    if *exit != former {
+        tally.difference(format!("step {call:?}: former version {former:?}, library {exit:?}"));
+    }
+    former.scratch.truncate(now);
+    let cut = library_step(call, &call.scratch[..now]);
+    if cut != former {
+        tally.difference(format!("step {call:?} with {now} numbers of its scratch: former version {former:?}, library {cut:?}"));
+    }
+}
+
+/// A length of scratch that is enough for so many nodes: what is needed or a few more, what was needed before ticket 9 or a few more, or one
+/// between both.
+pub fn scratch_length(random: &mut Random, nodes: usize) -> usize {
+    let (now, formerly) = needed(nodes);
+    let few = random.pick(&[1, 2, 7]);
+    let between = random.between(now as i64 + 1, formerly as i64 - 1) as usize;
+    random.pick(&[now, now, now + few, between, between, formerly, formerly + few, formerly + few])
 }
 
 /// A step of the field to the total wanted, from any kept masses and source that lead to it, at any scale in range.
@@ -279,14 +320,14 @@ pub fn make_step(random: &mut Random, field: Field, wanted: u32) -> StepCall {
     };
     let total = (i64::from(wanted) - i64::from(source)).clamp(0, i64::from(u32::MAX)) as u32;
     let scale = sound_scale(random);
-    let spare = random.pick(&[0, 0, 1, 7]);
+    let length = scratch_length(random, field.parents.len());
     let longer = random.pick(&[0, 0, 1, 4]);
     StepCall {
         balance: Balance { total, scale },
         kept: random::partition(random, total, field.targets.len()),
         source: (i64::from(wanted) - i64::from(total)) as i32,
         scale,
-        scratch: any_bits(random, 6 * field.parents.len() + spare, |bits| bits as i64),
+        scratch: any_bits(random, length, |bits| bits as i64),
         answer: any_bits(random, 4 + longer, |bits| bits),
         field,
     }
@@ -348,11 +389,14 @@ pub fn break_step(random: &mut Random, call: &mut StepCall) {
             _ => call.field.parents.resize(random.pick(&[0, 1, 1023, 1024, 1025, 1100]), value),
         },
         12 => stretch(random, &mut call.kept, value),
-        13 => match random.below(3) {
-            0 => call.scratch.truncate((6 * call.field.parents.len()).saturating_sub(1)),
-            1 => call.scratch.truncate(random.index(call.scratch.len() + 1)),
-            _ => call.answer.truncate(random.index(4)),
-        },
+        13 => {
+            let (needed, _) = needed(call.field.parents.len());
+            match random.below(3) {
+                0 => call.scratch.truncate(needed.saturating_sub(1)),
+                1 => call.scratch.truncate(random.index(needed.max(1))),
+                _ => call.answer.truncate(random.index(4)),
+            }
+        }
         14 => break_kept(random, &mut call.kept),
         15 => call.balance.total = call.balance.total.wrapping_add(random.pick(&[1, 2, u32::MAX, 1 << 31])),
         16 => call.source = random.pick(&[i32::MIN, i32::MAX, value as i32]),
@@ -361,8 +405,57 @@ pub fn break_step(random: &mut Random, call: &mut StepCall) {
     }
 }
 
+/// How often steps have met each kind of scratch. A pair counts the accepted ones and those refused after check 3.
+#[derive(Default)]
+struct Scratches {
+    /// A number fewer than needed, and refused with 3.
+    short: u64,
+    /// As many as needed. These and the next were refused with 3 before ticket 9.
+    exact: [u64; 2],
+    /// More, but fewer than were needed before ticket 9.
+    between: [u64; 2],
+    /// As many as were needed before ticket 9, or more: those that are compared with that version.
+    former: [u64; 2],
+}
+
+impl Scratches {
+    fn count(&mut self, call: &StepCall, exit: &StepExit) {
+        let (length, number) = (call.scratch.len(), exit.returned as u32);
+        let (now, formerly) = needed(call.field.parents.len());
+        if (1..=3).contains(&number) {
+            self.short += u64::from(number == 3 && length + 1 == now);
+            return;
+        }
+        let pair = if length == now {
+            &mut self.exact
+        } else if length < formerly {
+            &mut self.between
+        } else {
+            &mut self.former
+        };
+        pair[usize::from(number != 0)] += 1;
+    }
+
+    fn look_for(&self, tally: &mut Tally) {
+        let (now, formerly) = needed(1);
+        let kinds = [
+            (format!("just {now}"), self.exact),
+            (format!("between {now} and {formerly}"), self.between),
+            (format!("{formerly} or more"), self.former),
+        ];
+        for (numbers, pair) in kinds {
+            for (answer, count) in ["accepted", "refused after check 3"].iter().zip(pair) {
+                let kind = format!("step: scratch of {numbers} for each node, {answer}");
+                println!("{kind}: {count}");
+                tally.must_occur(&kind, count);
+            }
+        }
+        tally.must_occur("step: scratch that is a number short", self.short);
+    }
+}
+
 pub fn steps(tally: &mut Tally, random: &mut Random, count: u64) {
-    let mut workspace = Workspace::default();
+    let (mut workspace, mut scratches) = (Workspace::default(), Scratches::default());
     for _ in 0..count {
         let cells = random::cell_count(random);
         let field = random::field(random, cells);
@@ -371,8 +464,10 @@ pub fn steps(tally: &mut Tally, random: &mut Random, count: u64) {
         for _ in 0..breaks(random) {
             break_step(random, &mut call);
         }
-        compare_step(tally, &mut workspace, &call);
+        let (exit, _) = compare_step(tally, &mut workspace, &call);
+        scratches.count(&call, &exit);
     }
+    scratches.look_for(tally);
 }
 
 // ---- doubles ----

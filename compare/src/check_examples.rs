@@ -6,7 +6,7 @@ use crate::check_files::repaired_by_files;
 use crate::files::{field_file, read_answer, reconstruct_file, AnswerHeader, FileWorkspace};
 use crate::from_c::returned;
 use crate::listing::listing;
-use crate::operations::{reconstruct, refuse_at, LIMIT, MAX_NODES};
+use crate::operations::{reconstruct, refuse_at, LIMIT, MAX_NODES, SCRATCH_PER_NODE};
 use crate::random;
 use crate::split::rounded;
 use crate::tally::Tally;
@@ -35,7 +35,7 @@ type Answer = Result<(u32, Vec<u32>, u64, u64), (u32, u32)>;
 /// Outcome, masses, change and the sum shared out, or the refusal, of both sides; the library's by its files. The call on a file has no
 /// place: it is looked at as far as it goes.
 fn check_field(tally: &mut Tally, name: &str, field: &Field, total: u32, expected: Answer) {
-    let (mut masses, mut scratch) = (vec![7; field.targets.len()], vec![7; 6 * field.parents.len()]);
+    let (mut masses, mut scratch) = (vec![7; field.targets.len()], vec![7; SCRATCH_PER_NODE * field.parents.len()]);
     let result = reconstruct(&mut Workspace::default(), &field.lists(), total, &mut masses, &mut scratch);
     tally.outcome(&result.map(|repair| repair.outcome));
     let mine = result.map(|repair| (repair.outcome, masses, repair.change, repair.shared));

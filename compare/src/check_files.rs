@@ -8,7 +8,7 @@ use crate::files::{answer_file_length, field_file, field_file_length, read_field
 use crate::files::{word, AnswerHeader, FileWorkspace, BLOCK, MAX_ANSWER_FILE};
 use crate::from_c::{self, answer_values, returned};
 use crate::listing::listing;
-use crate::operations::{reconstruct, Refusal};
+use crate::operations::{reconstruct, Refusal, SCRATCH_PER_NODE};
 use crate::random::{self, Random};
 use crate::shared::shared_by_masses;
 use crate::tally::Tally;
@@ -317,7 +317,7 @@ pub fn round_trips(tally: &mut Tally, random: &mut Random, count: u64) {
         if random.chance(20) {
             random::break_field(random, &mut field);
         }
-        let (mut masses, mut scratch) = (vec![0; cells], vec![0; 6 * field.parents.len()]);
+        let (mut masses, mut scratch) = (vec![0; cells], vec![0; SCRATCH_PER_NODE * field.parents.len()]);
         let result = reconstruct(&mut workspace, &field.lists(), total, &mut masses, &mut scratch);
         tally.outcome(&result.map(|repair| repair.outcome));
         let told = result.map(|repair| answer_values(AnswerHeader { cells, repair }));

@@ -2,7 +2,7 @@
 //! add up to the opening total and the sources of the accepted steps, that is the total returned, and the step was at the opening's scale.
 
 use crate::calls;
-use crate::check_calls::{break_step, compare_step, sound_scale, StepCall};
+use crate::check_calls::{break_step, compare_step, scratch_length, sound_scale, StepCall};
 use crate::operations::{Balance, LIMIT};
 use crate::random::{self, Random};
 use crate::tally::Tally;
@@ -63,7 +63,7 @@ fn good_call(random: &mut Random, kept: &[u32], balance: Balance) -> StepCall {
         kept: kept.to_vec(),
         source: (i64::from(wanted) - i64::from(balance.total)) as i32,
         scale: balance.scale,
-        scratch: vec![-1; 6 * field.parents.len() + random.index(3)],
+        scratch: vec![-1; scratch_length(random, field.parents.len())],
         answer: vec![u64::MAX; 4],
         field,
     }

@@ -1,7 +1,7 @@
 //! Blocks, field files and answer files, after the section "Files" of 01 and tickets 1 and 2 of 02, and the call on a field file's bytes.
 //! Written from the papers alone; shares no code with the library.
 
-use crate::operations::{check_cells, check_counts, reconstruct, refuse, refuse_at, Refusal, MAX_CELLS, MAX_NODES};
+use crate::operations::{check_cells, check_counts, reconstruct, refuse, refuse_at, Refusal, MAX_CELLS, MAX_NODES, SCRATCH_PER_NODE};
 use crate::tree::{sum, Field, Lists, Repair, Workspace};
 
 pub const BLOCK: usize = 512;
@@ -341,7 +341,7 @@ impl Default for FileWorkspace {
     fn default() -> FileWorkspace {
         FileWorkspace {
             tree: Workspace::default(),
-            scratch: vec![0; 6 * MAX_NODES],
+            scratch: vec![0; SCRATCH_PER_NODE * MAX_NODES],
             field: Field::filled(MAX_CELLS, MAX_NODES, 0),
             masses: vec![0; MAX_CELLS],
         }

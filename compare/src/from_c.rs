@@ -45,10 +45,10 @@ pub fn open(kept: &[u32], scale: u32, answer: &mut [u64]) -> Result<(), Refusal>
     Ok(())
 }
 
-/// The answer's length is checked with the other lengths, after 1 and 2. Of the new record it has the total alone: the scale is the one
-/// given.
+/// Step with `PER_NODE` scratch numbers for each node. The answer's length is checked with the other lengths, after 1 and 2. Of the new
+/// record it has the total alone: the scale is the one given.
 #[allow(clippy::too_many_arguments)] // those of the call, and the workspace
-pub fn step(
+pub fn step_by<const PER_NODE: usize>(
     workspace: &mut Workspace,
     balance: Balance,
     kept: &mut [u32],
@@ -60,7 +60,7 @@ pub fn step(
 ) -> Result<(), Refusal> {
     check_counts(lists.targets.len(), lists.parents.len())?;
     check_length(answer, 4)?;
-    let (repair, new) = operations::step(workspace, balance, kept, source, scale, lists, scratch)?;
+    let (repair, new) = operations::step_by::<PER_NODE>(workspace, balance, kept, source, scale, lists, scratch)?;
     answer[..4].copy_from_slice(&[u64::from(repair.outcome), u64::from(new.total), repair.change, repair.shared]);
     Ok(())
 }

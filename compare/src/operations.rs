@@ -1,5 +1,5 @@
 //! Split, Reconstruct, Open and Step with all that they turn down, after the section "Operations and what each turns down" of 01 and
-//! tickets 2 and 7 of 02. Checks stand in the papers' order. Written from the papers alone; shares no code with the library.
+//! tickets 2, 7 and 9 of 02. Checks stand in the papers' order. Written from the papers alone; shares no code with the library.
 
 use crate::split::{share_out, Item};
 use crate::tree::{broken_node, repair, sum, Lists, Repair, Workspace};
@@ -8,6 +8,10 @@ pub const MAX_CELLS: usize = 512;
 pub const MAX_NODES: usize = 1024;
 pub const LIMIT: u64 = 2147483647;
 pub const MAX_SCALE: u32 = 30;
+/// Scratch numbers that Reconstruct and Step ask for and clear, for each node.
+pub const SCRATCH_PER_NODE: usize = 4;
+/// The same before ticket 9.
+pub const FORMER_SCRATCH_PER_NODE: usize = 6;
 
 /// A refusal: its number and its place.
 #[derive(Clone, Copy, Debug, PartialEq)]
@@ -83,11 +87,11 @@ pub fn check_counts(cells: usize, nodes: usize) -> Result<(), Refusal> {
     Ok(())
 }
 
-/// Check 3: `masses` is the length of the list that the masses go to.
-fn check_lengths(lists: &Lists, masses: usize, scratch: usize) -> Result<(), Refusal> {
+/// Check 3: `masses` is the length of the list that the masses go to, `per_node` how many scratch numbers a node needs.
+fn check_lengths(lists: &Lists, masses: usize, scratch: usize, per_node: usize) -> Result<(), Refusal> {
     let cells = lists.targets.len();
     let lengths = [lists.lows.len(), lists.highs.len(), lists.safe_lows.len(), lists.safe_highs.len(), lists.weights.len(), masses];
-    if lengths != [cells; 6] || scratch < 6 * lists.parents.len() {
+    if lengths != [cells; 6] || scratch < per_node * lists.parents.len() {
         return refuse(3);
     }
     Ok(())
@@ -132,11 +136,11 @@ pub fn reconstruct(
     scratch: &mut [i64],
 ) -> Result<Repair, Refusal> {
     check_counts(lists.targets.len(), lists.parents.len())?;
-    check_lengths(lists, masses.len(), scratch.len())?;
+    check_lengths(lists, masses.len(), scratch.len(), SCRATCH_PER_NODE)?;
     check_field(workspace, lists)?;
     check_total(lists, total)?;
     let repair = repair(workspace, lists, total, masses);
-    scratch[..6 * lists.parents.len()].fill(0);
+    scratch[..SCRATCH_PER_NODE * lists.parents.len()].fill(0);
     Ok(repair)
 }
 
@@ -175,8 +179,21 @@ pub fn step(
     lists: &Lists,
     scratch: &mut [i64],
 ) -> Result<(Repair, Balance), Refusal> {
+    step_by::<SCRATCH_PER_NODE>(workspace, balance, kept, source, scale, lists, scratch)
+}
+
+/// Step with `PER_NODE` scratch numbers for each node, so that the version before ticket 9 can be run too.
+pub fn step_by<const PER_NODE: usize>(
+    workspace: &mut Workspace,
+    balance: Balance,
+    kept: &mut [u32],
+    source: i32,
+    scale: u32,
+    lists: &Lists,
+    scratch: &mut [i64],
+) -> Result<(Repair, Balance), Refusal> {
     check_counts(lists.targets.len(), lists.parents.len())?;
-    check_lengths(lists, kept.len(), scratch.len())?;
+    check_lengths(lists, kept.len(), scratch.len(), PER_NODE)?;
     check_step_scale(balance, scale)?;
     check_field(workspace, lists)?;
     if sum(kept) != u64::from(balance.total) {
@@ -188,6 +205,6 @@ pub fn step(
     }
     check_total(lists, new_total as u32)?;
     let repair = repair(workspace, lists, new_total as u32, kept);
-    scratch[..6 * lists.parents.len()].fill(0);
+    scratch[..PER_NODE * lists.parents.len()].fill(0);
     Ok((repair, Balance { total: new_total as u32, scale: balance.scale }))
 }

@@ -4,8 +4,8 @@
 
 use compare::calls;
 use compare::files::{answer_file_length, field_file, reconstruct_file, FileWorkspace};
-use compare::from_c::step;
-use compare::operations::Balance;
+use compare::from_c::step_by;
+use compare::operations::{Balance, SCRATCH_PER_NODE};
 use compare::random::{binary, chain, flat, partition, Random};
 use compare::ratios::{bounds, WHOLE};
 use compare::tree::{sum, Field, Workspace};
@@ -73,15 +73,15 @@ fn measure_step(random: &mut Random, field: &Field, total: u32) -> (f64, f64) {
     let balance = Balance { total, scale: 0 };
     let mut kept = partition(random, total, field.targets.len());
     let (mut kept_too, lists, mut workspace) = (kept.clone(), field.lists(), Workspace::default());
-    let (mut scratch, mut answer) = (vec![0; 6 * field.parents.len()], [0; 4]);
+    let (mut scratch, mut answer) = (vec![0; SCRATCH_PER_NODE * field.parents.len()], [0; 4]);
     let (mut scratch_too, mut answer_too) = (scratch.clone(), answer);
     let mut library = || {
         let returned = calls::step(balance, black_box(&mut kept), 0, balance.scale, black_box(&lists), &mut scratch, &mut answer);
         assert!(returned == 0);
     };
     let mut second = || {
-        let kept = black_box(&mut kept_too);
-        let result = step(&mut workspace, balance, kept, 0, balance.scale, black_box(&lists), &mut scratch_too, &mut answer_too);
+        let (kept, lists, scratch, answer) = (black_box(&mut kept_too), black_box(&lists), &mut scratch_too, &mut answer_too);
+        let result = step_by::<SCRATCH_PER_NODE>(&mut workspace, balance, kept, 0, balance.scale, lists, scratch, answer);
         assert!(result.is_ok());
     };
     measure(&mut library, &mut second)

@@ -3,7 +3,7 @@
 //! and each step's targets are the masses that the last one left. So nothing but the rounding of shares prefers one cell to another.
 
 use compare::calls;
-use compare::operations::{Balance, LIMIT};
+use compare::operations::{Balance, LIMIT, SCRATCH_PER_NODE};
 use compare::random::{binary, flat, Random};
 use compare::tree::Field;
 
@@ -28,7 +28,7 @@ fn drift(parents: &[u32], cells: usize, weight: u32, (least, most): (i64, i64)) 
     let mut field = Field::filled(cells, 0, 0);
     field.parents = parents.to_vec();
     (field.highs, field.safe_highs, field.weights) = (vec![high; cells], vec![high; cells], vec![weight; cells]);
-    let (mut scratch, mut answer) = (vec![0; 6 * parents.len()], [0; 4]);
+    let (mut scratch, mut answer) = (vec![0; SCRATCH_PER_NODE * parents.len()], [0; 4]);
     let (mut random, mut largest) = (Random::new(2), 0.0_f64);
     for _ in 0..STEPS {
         field.targets = kept.iter().map(|&mass| mass as i32).collect();

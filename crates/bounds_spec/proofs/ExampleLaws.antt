@@ -55,10 +55,10 @@ stepped =
       call = quarterStep;
       answer = steps.Accepted repaired (record { total = 3; scale = 20 });
       kept = 1 ∷ 2 ∷ [];
-      scratch = replicate 18 (pos 0);
+      scratch = replicate 12 (pos 0);
     }
 
-repairs-it : ReconstructContract repairCall (repairs.Done repaired) (1 ∷ 2 ∷ []) (replicate 18 (pos 0)) × Promised stepped
+repairs-it : ReconstructContract repairCall (repairs.Done repaired) (1 ∷ 2 ∷ []) (replicate 12 (pos 0)) × Promised stepped
 unfolding sumTo listTo written minℤ maxℤ quota eachFrom firstFrom checkCount clip clipped deficit capacity portion firstShare remainder left
     secondShare shares result leads childOf anyChild nodeSum parentOk nodeOk massFrom massAt massBetween outcome outcomeNumber lowIn highIn changeOf groupOf
     treeMass treeMasses sharedOf treeShared checkNodes checkLists checkTree boundsOrdered checkOrder checkSum checkReach checkShape checkValues repair cleared

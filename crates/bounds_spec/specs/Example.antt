@@ -40,7 +40,7 @@ quarterLists = lists (negsuc 4 ∷ pos 9 ∷ []) (1 ∷ 2 ∷ []) (1 ∷ 2 ∷ [
 
 -- its repair for the total 3, and a step to it from kept masses 3 and 1 with source −1
 abbrev pub repairCall : ReconstructCall
-repairCall = reconstructCall quarterLists 3 (7 ∷ 7 ∷ []) (replicate 18 (pos 1))
+repairCall = reconstructCall quarterLists 3 (7 ∷ 7 ∷ []) (replicate 12 (pos 1))
 
 abbrev pub quarterStep : StepCall
-quarterStep = stepCall (record { total = 4; scale = 20 }) (3 ∷ 1 ∷ []) (negsuc 0) 20 quarterLists (replicate 18 (pos 1))
+quarterStep = stepCall (record { total = 4; scale = 20 }) (3 ∷ 1 ∷ []) (negsuc 0) 20 quarterLists (replicate 12 (pos 1))

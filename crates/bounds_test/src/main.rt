@@ -72,7 +72,7 @@ fn step(
     let weights = [1u32; 600];
     let parents = [n as u32; 601];
     let mut kept = [0u32; 600];
-    let mut scratch = [0i64; 3606];
+    let mut scratch = [0i64; 2404];
     step_lists(
         source,
         targets,

@@ -34,19 +34,19 @@ abbrev row : ReconstructCall → ℕ → String → Row
 row given cell line = record { given = given; cell = cell; line = ascii line }
 
 abbrev e1 : ReconstructCall
-e1 = reconstructCall e1Lists 16 (replicate 4 9) (replicate 42 (pos 1))
+e1 = reconstructCall e1Lists 16 (replicate 4 9) (replicate 28 (pos 1))
 
 -- E3's items as the cells of a field
 abbrev e3 : ReconstructCall
 e3 =
     reconstructCall (lists (pos 0 ∷ pos 0 ∷ []) (0 ∷ 0 ∷ []) (10 ∷ 3 ∷ []) (0 ∷ 0 ∷ []) (10 ∷ 3 ∷ []) (1 ∷ 3 ∷ []) (2 ∷ 2 ∷ 2 ∷ []))
-    8 (replicate 2 9) (replicate 18 (pos 1))
+    8 (replicate 2 9) (replicate 12 (pos 1))
 
 -- E4's field with safe lows 2 and 3
 abbrev floor : ℕ → ReconstructCall
 floor M =
     reconstructCall (lists (pos 3 ∷ pos 5 ∷ []) (3 ∷ 5 ∷ []) (4 ∷ 6 ∷ []) (2 ∷ 3 ∷ []) (replicate 2 10) (replicate 2 0) (2 ∷ 2 ∷ 2 ∷ []))
-    M (replicate 2 9) (replicate 18 (pos 1))
+    M (replicate 2 9) (replicate 12 (pos 1))
 
 abbrev tree : List ℕ
 tree = 2 ∷ 2 ∷ 2 ∷ []

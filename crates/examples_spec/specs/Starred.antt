@@ -60,10 +60,10 @@ e3 = splitCall (replicate 2 (pos 0)) (replicate 2 (pos 0)) (pos 10 ∷ pos 3 ∷
 abbrev pub e4 : ℕ → List ℕ → ReconstructCall
 e4 M parents =
     reconstructCall (lists (pos 3 ∷ pos 5 ∷ []) (3 ∷ 5 ∷ []) (4 ∷ 6 ∷ []) (replicate 2 0) (replicate 2 10) (replicate 2 0) parents)
-    M (replicate 2 9) (replicate 18 (pos 1))
+    M (replicate 2 9) (replicate 12 (pos 1))
 
 abbrev pub e8 : ReconstructCall
-e8 = reconstructCall (lists (pos 3 ∷ []) (0 ∷ []) (5 ∷ []) (0 ∷ []) (10 ∷ []) (0 ∷ []) (0 ∷ [])) 7 (9 ∷ []) (replicate 6 (pos 1))
+e8 = reconstructCall (lists (pos 3 ∷ []) (0 ∷ []) (5 ∷ []) (0 ∷ []) (10 ∷ []) (0 ∷ []) (0 ∷ [])) 7 (9 ∷ []) (replicate 4 (pos 1))
 
 -- the double of a bit pattern; a target, a low and a high, with 0 in the other fields
 abbrev bits : ℕ → Float
@@ -100,7 +100,7 @@ e1Query = row (queries (fieldBytes e1Lists 16) 1) (text (ascii "outcome 0 clippi
 abbrev pub others : List Row
 others =
     -- E1's field, by Reconstruct
-    row (repairs (reconstructCall e1Lists 16 (replicate 4 9) (replicate 42 (pos 1)))) (repaired 0 16 4 1 (0 ∷ 7 ∷ 4 ∷ 5 ∷ []))
+    row (repairs (reconstructCall e1Lists 16 (replicate 4 9) (replicate 28 (pos 1)))) (repaired 0 16 4 1 (0 ∷ 7 ∷ 4 ∷ 5 ∷ []))
     -- E2
     ∷ row (splits (e2 (pos 2))) (done (pos 2) (pos 1 ∷ pos 0 ∷ pos 1 ∷ []))
     ∷ row (splits (e2 (pos 3))) (done (pos 3) (pos 1 ∷ pos 1 ∷ pos 1 ∷ []))

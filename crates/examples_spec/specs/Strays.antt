@@ -31,13 +31,13 @@ pub record Row : Type 0 where
 abbrev flat : ReconstructCall
 flat =
     reconstructCall (lists (e1Lists .targets) (e1Lists .lows) (e1Lists .highs) (e1Lists .safeLows) (e1Lists .safeHighs) (e1Lists .weights) (replicate 5 4))
-    16 (replicate 4 9) (replicate 42 (pos 1))
+    16 (replicate 4 9) (replicate 28 (pos 1))
 
 -- targets −4, 6, 6, the first two below one node: clipped before they are added up they would give 0 4 4
 abbrev clipping : ReconstructCall
 clipping =
     reconstructCall (lists (negsuc 3 ∷ pos 6 ∷ pos 6 ∷ []) (replicate 3 0) (replicate 3 8) (replicate 3 0) (replicate 3 10) (replicate 3 0) (3 ∷ 3 ∷ 4 ∷ 4 ∷ 4 ∷ []))
-    8 (replicate 3 9) (replicate 30 (pos 1))
+    8 (replicate 3 9) (replicate 20 (pos 1))
 
 -- E4's field at a total that equals the sum of the lows, or of the highs: no safety bounds
 abbrev equal : ℕ → ReconstructCall

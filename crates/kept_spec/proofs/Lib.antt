@@ -2,5 +2,6 @@
 pub mod RunLaws
 pub mod OpenLaws
 pub mod StepLaws
+pub mod FormerLaws
 pub mod Demand3
 pub mod ExampleLaws

@@ -26,20 +26,20 @@ begin = record { kept = 3 ∷ 5 ∷ []; balance = balance 8 }
 abbrev pub first : Event
 first =
     record {
-      call = stepCall (balance 8) (3 ∷ 5 ∷ []) (pos 2) 20 two (replicate 18 (pos 1));
+      call = stepCall (balance 8) (3 ∷ 5 ∷ []) (pos 2) 20 two (replicate 12 (pos 1));
       answer = Accepted (record { outcome = 0; total = 10; change = 2; shared = 2 }) (balance 10);
       kept = 4 ∷ 6 ∷ [];
-      scratch = replicate 18 (pos 0);
+      scratch = replicate 12 (pos 0);
     }
 
 -- a refused call leaves the masses and the scratch that it was lent
 abbrev refusal : Balance → List ℕ → ℤ → ℕ → ℕ → Event
 refusal b kept source scale number =
     record {
-      call = stepCall b kept source scale two (replicate 18 (pos 1));
+      call = stepCall b kept source scale two (replicate 12 (pos 1));
       answer = Refused number 0;
       kept = kept;
-      scratch = replicate 18 (pos 1);
+      scratch = replicate 12 (pos 1);
     }
 
 -- 10 + 11 is out of reach
@@ -70,10 +70,10 @@ seventh = refusal (balance 7) (7 ∷ 7 ∷ 7 ∷ []) (pos 1) 20 3
 abbrev pub eighth : Event
 eighth =
     record {
-      call = stepCall (balance 10) (4 ∷ 6 ∷ []) (negsuc 3) 20 two (replicate 18 (pos 1));
+      call = stepCall (balance 10) (4 ∷ 6 ∷ []) (negsuc 3) 20 two (replicate 12 (pos 1));
       answer = Accepted (record { outcome = 0; total = 6; change = 2; shared = 2 }) (balance 6);
       kept = 2 ∷ 4 ∷ [];
-      scratch = replicate 18 (pos 0);
+      scratch = replicate 12 (pos 0);
     }
 
 abbrev pub events : List Event

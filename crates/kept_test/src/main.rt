@@ -133,7 +133,7 @@ fn step_by(
 ) -> Stepped
     requires { ⌜ m ≤ 15 ⌝ }
 {
-    let mut scratch = [0i64; 90];
+    let mut scratch = [0i64; 60];
     let nodes = &parents[..];
     kept::step(
         balance,

@@ -131,6 +131,10 @@ grows f k (suc d) = let e : suc d + k ≡ suc (d + k) = omega arith in rw (e, su
 pub sumTo-grows : (f : ℕ → ℕ) (k m : ℕ) → k ≤ m → sumTo ℕ-adds k f ≤ sumTo ℕ-adds m f
 sumTo-grows f k m l = let e : m ≡ (m - k) + k = omega arith in rw e (grows f k (m - k))
 
+-- a summand is at most the sum
+pub sumTo-summand : (k : ℕ) (f : ℕ → ℕ) (u : ℕ) → u < k → f u ≤ sumTo ℕ-adds k f
+sumTo-summand k f u l = omega (arith, sumTo-next ℕ-adds u f, sumTo-grows f (suc u) k l)
+
 -- at most as many times the largest summand as there are summands
 sumTo-most : (k b : ℕ) (f : ℕ → ℕ) → ((i : ℕ) → i < k → f i ≤ b) → sumTo ℕ-adds k f ≤ k * b
 unfolding sumTo

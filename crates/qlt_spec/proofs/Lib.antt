@@ -8,3 +8,4 @@ pub mod MissLaws
 pub mod FactLaws
 pub mod CheckLaws
 pub mod OperationLaws
+pub mod FormerLaws

@@ -56,9 +56,9 @@ field f =
       weight = at (f .weights);
     }
 
--- 01's scratch: so many signed 64-bit numbers for each node
+-- 01's scratch, by ticket 9 of 02: so many signed 64-bit numbers for each node
 abbrev pub scratchPerNode : ℕ
-scratchPerNode = 6
+scratchPerNode = 4
 
 -- and that of a field of the most nodes
 abbrev pub maxScratch : ℕ

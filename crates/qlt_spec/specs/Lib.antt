@@ -5,3 +5,4 @@ pub mod Masses
 pub mod Checks
 pub mod Facts
 pub mod Operation
+pub mod Former

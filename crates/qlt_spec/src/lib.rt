@@ -3,10 +3,10 @@
 // `reconstruct`. Relies on `caas_spec` and `numbers`.
 
 // The numbers of scratch for each node; `scratchPerNode` in specs/Field.antt.
-pub const SCRATCH_PER_NODE: usize = 6;
+pub const SCRATCH_PER_NODE: usize = 4;
 
 // The scratch of a field of the most nodes; `maxScratch` in specs/Field.antt.
-pub const MAX_SCRATCH: usize = 6144;
+pub const MAX_SCRATCH: usize = 4096;
 
 // What an accepted field gives beside its masses, in 01's terms: the outcome, M and the change; and the sum of the sizes of d over all inner
 // nodes, which ticket 2 of 02 calls shared out.

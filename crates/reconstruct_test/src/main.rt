@@ -7,7 +7,7 @@
 // as 1. A number beyond the range of its list is taken as the end of that range. Before the call each mass is 7 and each number of the
 // scratch 5.
 // A line has `done` with outcome, total, change and the sum shared out, or `refused` with number and place; then the masses as the call
-// left them, up to 16 of them, or of more their sum and a check number; then `scratch`, how many of its first 6 × m numbers are 0, how
+// left them, up to 16 of them, or of more their sum and a check number; then `scratch`, how many of its first 4 × m numbers are 0, how
 // many of the later ones are still 5, and how many of the first. The cases end with the input, of which at most 65,536 bytes are read.
 // Relies on `reconstruct`, which it tests, `qlt_spec` for the answer, `test_support`, `numbers`, and the kit's `io` and `libc`.
 ghost use Prim.Native.Nat.{_≤_};

@@ -1,1 +1,2 @@
 pub mod RepairFile
+pub mod Former

@@ -1,18 +1,21 @@
--- The scratch: a row of numbers for each node, read by column. Assumes nothing.
+-- The scratch: a row of four numbers for each node, read by column. The first number is the column MASS alone; the 64 bits of each of the
+-- others, in two's complement, hold two columns of 32 bits, one in the low half and one in the high half. Assumes nothing.
 -- Only `col` and the laws of a store (proofs/ColumnLaws.antt) know where a column stands; all else goes by those laws.
 use mathlib.Core.Path.{_≡_}
 use mathlib.Core.Logic.{_≢_}
 use mathlib.Core.Bool.{Bool, true, false}
 use mathlib.Core.List.{List}
-use Prim.Native.Nat.{ℕ, _+_, _*_, _≤_, _<_}
-use lib.IntN.{ℤ}
+use Prim.Native.Nat.{ℕ, zero, suc, _+_, _*_, _/_, _%_, _^_, _≤_, _<_}
+use lib.IntN.{ℤ, pos}
 use lib.ListN.{length}
+use mir.Syntax.{w64}
+use mir.Val.{toZ, ofZ}
 use Rattle.numbers.specs.Lists.{atℤ}
 use Rattle.numbers.specs.Signed.{over}
 
 -- the numbers of the scratch that a row takes
 abbrev pub width : ℕ
-width = 6
+width = 4
 
 -- the columns: a node's target, later its mass; its low and high in force; its weight; its first child; its next sibling
 abbrev pub MASS : ℕ
@@ -33,9 +36,41 @@ FIRST = 4
 abbrev pub NEXT : ℕ
 NEXT = 5
 
+-- where in a row column k stands: MASS | LOW, FIRST | HIGH, NEXT | WEIGHT
+abbrev pub offset : ℕ → ℕ
+offset k = k % 4 + k / 4
+
+-- of 64 bits, half 0 is the low 32, half 1 those above them; and the bits w with v for one half
+abbrev pub half : ℕ → ℕ → ℕ
+half zero w = w % 2 ^ 32
+half (suc _) w = w / 2 ^ 32
+
+abbrev pub withHalf : ℕ → ℕ → ℕ → ℕ
+withHalf zero w v = w / 2 ^ 32 * 2 ^ 32 + v
+withHalf (suc _) w v = v * 2 ^ 32 + w % 2 ^ 32
+
+-- what a number of a row holds of column k: all of it for MASS; else the low half of its bits for LOW, HIGH and
+-- WEIGHT, the high half for FIRST and NEXT
+abbrev pub part : ℕ → ℤ → ℤ
+part zero z = z
+part (suc j) z = pos (half (suc j / 4) (ofZ w64 z))
+
+-- the number z with v for what it holds of column k
+abbrev pub withPart : ℕ → ℤ → ℕ → ℤ
+withPart zero z v = pos v
+withPart (suc j) z v = toZ w64 (withHalf (suc j / 4) (ofZ w64 z) v)
+
+-- what column k can hold: MASS any number, the others from 0 to 2 ^ 31 − 1
+abbrev pub Small : ℕ → ℕ → Type 0
+Small k v = k ≢ MASS → v < 2 ^ 31
+
+pub record Storable (k : ℕ) (z : ℤ) : Type 0 where
+  pub natural : k ≢ MASS → z ≡ pos (over z)
+  pub small : Small k (over z)
+
 -- column k of node u, and what it has above 0
 unfoldable pub col : ℕ → List ℤ → ℕ → ℤ
-col k s u = atℤ s (width * u + k)
+col k s u = part k (atℤ s (width * u + offset k))
 
 abbrev pub num : ℕ → List ℤ → ℕ → ℕ
 num k s u = over (col k s u)

@@ -2,7 +2,7 @@
 // (proofs/) alone; the code is in the crate `walks`. Relies on `caas_spec` and `numbers`.
 
 // The numbers of the scratch that a row takes; `width` in specs/Columns.antt.
-pub const WIDTH: usize = 6;
+pub const WIDTH: usize = 4;
 
 // The columns of a row, as in specs/Columns.antt: a node's target, later its mass; its low and high in force; its weight; its first child;
 // its next sibling.

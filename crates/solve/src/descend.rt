@@ -23,6 +23,7 @@ pub fn link(parents: &[u32], m: usize, s: &mut [i64])
     requires { ⌜ m ≤ length (now parents) ⌝ }
     requires { ⌜ width * m ≤ length (now s) ⌝ }
     requires { ⌜ ((v : ℕ) → v < m → num FIRST (now s) v ≡ m) ⌝ }
+    requires { ⌜ m ≤ 1024 ⌝ }
     ensures { λ _. ⌜ Linked (at (now (parents .entry))) m 0 (now (s .exit)) ⌝ }
     ensures { λ _. ⌜ SameData m (now (s .entry)) (now (s .exit)) ⌝ }
 {

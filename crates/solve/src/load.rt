@@ -10,7 +10,7 @@ ghost use mir.Syntax.{w64};
 ghost use mir.Val.{SFits};
 ghost use Rattle.numbers.specs.Sums.{ℕ-adds, sumTo};
 ghost use Rattle.numbers.specs.Lists.{at, atℤ, listTo};
-ghost use Rattle.scratch_spec.specs.Columns.{width, MASS, col, num, InRow, Stored, Laid};
+ghost use Rattle.scratch_spec.specs.Columns.{width, MASS, Storable, col, num, InRow, Stored, Laid};
 ghost use Rattle.qlt_spec.specs.Tree.{Valid};
 ghost use Rattle.qlt_spec.specs.Operation.{cleared};
 ghost use Rattle.solve_spec.specs.Gather.{Gathering, Loaded, Targets};
@@ -50,7 +50,8 @@ fn blank(s: &mut [i64], k: usize, n: usize, m: usize)
 
 // Adds what v has in column k to what p has there.
 fn add_up(s: &mut [i64], k: usize, p: usize, v: usize)
-    requires { ⌜ InRow k (now s) p × InRow k (now s) v × SFits w64 (col k (now s) p +ℤ col k (now s) v) ⌝ }
+    requires { ⌜ InRow k (now s) p × InRow k (now s) v × SFits w64 (col k (now s) p +ℤ col k (now s) v) ×
+        Storable k (col k (now s) p +ℤ col k (now s) v) ⌝ }
     ensures { λ _. ⌜ Stored k p (col k (now (s .entry)) p +ℤ col k (now (s .entry)) v) (now (s .entry)) (now (s .exit)) ⌝ }
 {
     let sum = get_signed(s, k, p) + get_signed(s, k, v);
@@ -74,7 +75,8 @@ fn gather(parents: &[u32], n: usize, m: usize, k: usize, s: &mut [i64])
 
 // Column k of the cells, from a list.
 fn fill(s: &mut [i64], k: usize, xs: &[u32], m: usize)
-    requires { ⌜ (length (now xs) ≤ m) × (k < 6) × (width * m ≤ length (now s)) ⌝ }
+    requires { ⌜ (length (now xs) ≤ m) × (k < 6) × (width * m ≤ length (now s)) ×
+        ((u : ℕ) → u < length (now xs) → at (now xs) u < 2 ^ 31) ⌝ }
     ensures { λ _. ⌜ Laid k m (λ u. true) (λ u. pos (at (now (xs .entry)) u)) (length (now (xs .entry))) (now (s .entry)) (now (s .exit)) ⌝ }
 {
     let mut u: usize = 0;
@@ -86,7 +88,7 @@ fn fill(s: &mut [i64], k: usize, xs: &[u32], m: usize)
 
 // Column k of all nodes: x.
 pub fn fill_with(s: &mut [i64], k: usize, x: u64, m: usize)
-    requires { ⌜ (x < 2 ^ 63) × (k < 6) × (width * m ≤ length (now s)) ⌝ }
+    requires { ⌜ (x < 2 ^ 31) × (k < 6) × (width * m ≤ length (now s)) ⌝ }
     ensures { λ _. ⌜ Laid k m (λ u. true) (λ u. pos x) m (now (s .entry)) (now (s .exit)) ⌝ }
 {
     let mut u: usize = 0;

@@ -21,8 +21,8 @@ use Rattle.numbers.specs.Lists.{atℤ, listTo, written}
 use Rattle.numbers.proofs.SignedLaws.{about, minus-parts}
 use Rattle.numbers.proofs.SumLaws.{sumTo-next, sumTo-ext}
 use Rattle.numbers.proofs.ListLaws.{length-listTo, written-none, next-entry}
-use Rattle.scratch_spec.specs.Columns.{width, MASS, col, InRow, Stored, OnlyColumn, Laid}
-use Rattle.scratch_spec.proofs.ColumnLaws.{in-row, kept-start, kept-on, kept-write, laid-start, laid-next}
+use Rattle.scratch_spec.specs.Columns.{width, MASS, Small, Storable, col, InRow, Stored, OnlyColumn, Laid}
+use Rattle.scratch_spec.proofs.ColumnLaws.{col-natural, in-row, kept-start, kept-on, kept-write, laid-start, laid-next}
 use Rattle.qlt_spec.specs.Tree.{Valid}
 use Rattle.qlt_spec.specs.Operation.{cleared}
 use Rattle.qlt_spec.proofs.TreeLaws.{nodeSum-ext}
@@ -69,12 +69,20 @@ module _ {up : ℕ → ℕ} {n m k : ℕ} {s t : List ℤ} (ok : Gathering up n 
     sizes : sumTo ℕ-adds n (λ c. natAbs (col k t c)) ≡ sumTo ℕ-adds n (λ c. natAbs (col k s c))
     sizes = sumTo-ext ℕ-adds n _ _ (λ c i. ap natAbs (cells c i))
 
-    sum-size : natAbs (col k new p +ℤ col k new b) < 2 ^ 63
-    sum-size = omega (arith, ap natAbs sum-is, ok .small, sizes, upTo-size (ok .valid) (col k t) (suc b) p (omega arith) parent-in)
+    sum-most : natAbs (col k new p +ℤ col k new b) ≤ sumTo ℕ-adds n (λ c. natAbs (col k s c))
+    sum-most = omega (arith, ap natAbs sum-is, sizes, upTo-size (ok .valid) (col k t) (suc b) p (omega arith) parent-in)
 
-    -- what the addition asks: both rows are in the scratch, and the sum fits
-    pub gather-adds : InRow k new p × InRow k new b × SFits w64 (col k new p +ℤ col k new b)
-    gather-adds = (row p parent-in, row b (omega arith), record { sfits = omega (arith, sum-size, about (col k new p +ℤ col k new b)) })
+    -- the column can hold it
+    sum-storable : Storable k (col k new p +ℤ col k new b)
+    sum-storable =
+        record {
+          natural = λ j. rw (col-natural k new p j, col-natural k new b j) refl;
+          small = λ j. omega (arith, about (col k new p +ℤ col k new b), sum-most, ok .narrow j);
+        }
+
+    -- what the addition asks: both rows are in the scratch, the sum fits, and the column can hold it
+    pub gather-adds : InRow k new p × InRow k new b × SFits w64 (col k new p +ℤ col k new b) × Storable k (col k new p +ℤ col k new b)
+    gather-adds = (row p parent-in, row b (omega arith), record { sfits = omega (arith, sum-most, ok .small, about (col k new p +ℤ col k new b)) }, sum-storable)
 
     -- the sum is stored at p
     pub gather-turn : {r : List ℤ} → Stored k p (col k new p +ℤ col k new b) new r → GatherState up n m k (col k t) (b + 1) t r
@@ -104,14 +112,19 @@ sum-read x y p q e f = ap₂ _+ℤ_ (toZ-ofZ w64 x p ∙ e) (toZ-ofZ w64 y q ∙
 
 module _ {up : ℕ → ℕ} {n m k : ℕ} {f : ℕ → ℤ} {s t : List ℤ} (ok : Valid up n m) (filled : Laid k m (λ u. true) f n s t) where
   -- a list that is filled in can be added up
-  pub load-gathering : width * m ≤ length s → k < 6 → sumTo ℕ-adds n (λ c. natAbs (f c)) < 2 ^ 63 → Gathering up n m k t
-  load-gathering size column small =
+  pub load-gathering :
+      width * m ≤ length s → k < 6 → sumTo ℕ-adds n (λ c. natAbs (f c)) < 2 ^ 63 → Small k (sumTo ℕ-adds n (λ c. natAbs (f c))) → Gathering up n m k t
+  load-gathering size column small narrow =
       record {
         valid = ok;
         size = omega (arith, filled .kept .long);
         column = column;
-        small = omega (arith, sumTo-ext ℕ-adds n (λ c. natAbs (col k t c)) (λ c. natAbs (f c)) (λ c l. ap natAbs (filled .done c l refl)));
+        small = omega (arith, sizes-are);
+        narrow = λ j. omega (arith, sizes-are, narrow j);
       }
+    where
+      sizes-are : sumTo ℕ-adds n (λ c. natAbs (col k t c)) ≡ sumTo ℕ-adds n (λ c. natAbs (f c))
+      sizes-are = sumTo-ext ℕ-adds n (λ c. natAbs (col k t c)) (λ c. natAbs (f c)) (λ c l. ap natAbs (filled .done c l refl))
 
   -- and then each node has its sum of the list's values
   pub load-end : {new : List ℤ} → Loaded up n m k (col k t) t new → Loaded up n m k f s new

@@ -101,6 +101,10 @@ module _ {up : ℕ → ℕ} {n m : ℕ} (ok : Valid up n m) where
     pub parent-row : {p : ℕ} {t : List ℤ} → p ≡ up node → length t ≡ length s → InRow FIRST t p
     parent-row {p} {t} e h = in-row FIRST m p t (omega arith) (omega (arith, parent-in)) (omega (arith, st .same .long))
 
+    -- the first child so far is a node, or m
+    pub first-most : {p f : ℕ} → p ≡ up node → f ≡ num FIRST s p → f ≤ m
+    first-most {p} {f} e h = omega (arith, h, ap (num FIRST s) e, st .links .first (up node) parent-in .most)
+
     -- a turn: the node's next sibling is f, the first child so far of its parent p; the node, as z, takes that place
     module _ {p f z : ℕ} {t r : List ℤ} (ep : p ≡ up node) (ef : f ≡ num FIRST s p) (ez : z ≡ node) (one : Stored NEXT node (pos f) s t) (two : Stored FIRST p (pos z) t r) where
       first-other : (v : ℕ) → v ≢ up node → num FIRST r v ≡ num FIRST s v

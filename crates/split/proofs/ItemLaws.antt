@@ -11,16 +11,19 @@ use lib.IntN.{ℤ, pos}
 use lib.ListN.{length}
 use Rattle.numbers.specs.Lists.{atℤ, listTo}
 use Rattle.numbers.proofs.ListLaws.{listTo-ext}
-use Rattle.numbers.specs.Signed.{over}
+use Rattle.numbers.specs.Signed.{over, under}
+use Rattle.numbers.specs.Checks.{maxTotal}
+use Rattle.numbers.proofs.SignedLaws.{le-parts, from-zero, over-whole}
+use Rattle.numbers.proofs.SumLaws.{sumTo-summand}
 use Rattle.caas_spec.specs.Group.{Group, Splits}
 use Rattle.caas_spec.specs.Split.{deficit, result}
 use Rattle.caas_spec.specs.Operation.{SplitCall, items, SplitFits, itemGroup, splitMasses, splitDeficit}
 use Rattle.caas_spec.proofs.ExtLaws.{all-ext, deficit-ext, result-ext, splits-ext}
 use Rattle.caas_spec.proofs.OperationLaws.{items-splits, highs-small, weights-small}
 use Rattle.scratch_spec.specs.Chain.{cursor, onChain}
-use Rattle.scratch_spec.specs.Columns.{width, MASS, LOW, HIGH, WEIGHT, FIRST, NEXT, col, num, Stored, Laid}
+use Rattle.scratch_spec.specs.Columns.{width, MASS, LOW, HIGH, WEIGHT, FIRST, NEXT, Storable, col, num, Stored, Laid}
 use Rattle.scratch_spec.specs.Walks.{onChainOf, groupIn, Splitting, SplitDone}
-use Rattle.split.specs.Items.{ItemsLoaded}
+use Rattle.split.specs.Items.{AllStorable, ItemsLoaded}
 use Rattle.scratch_spec.proofs.ChainLaws.{cursor-start, cursor-next, chain-some}
 
 -- a chain from 0 that leads from each number to the next has them all
@@ -84,6 +87,43 @@ module _ (t l h w : List ℤ) (M : ℤ) (s₀ s₁ s₂ s₃ s₄ s₅ s₆ s : 
         nexts = λ u i. ap over (past NEXT u (omega arith) (omega arith) i ∙ nexts .done u i refl);
         head = ap over (total .cols FIRST n (omega arith) (omega arith) ∙ head .here);
         total = ap over (total .here);
+      }
+
+-- ---- what a call that fits leaves in its columns
+
+module _ (c : SplitCall) (fits : SplitFits c) where
+  storable-part : (z : ℤ) → under z ≡ 0 → over z ≤ maxTotal → Storable LOW z
+  storable-part z e l = record { natural = λ n. over-whole z e; small = λ n. omega arith }
+
+  high-small : (u : ℕ) → u < items c → over (atℤ (c .highs) u) ≤ maxTotal
+  high-small u l = omega (arith, sumTo-summand (items c) (λ w. over (atℤ (c .highs) w)) u l, highs-small c fits)
+
+  pub highs-storable : AllStorable (c .highs)
+  highs-storable =
+      record {
+        each =
+            λ u l.
+            let i : u < items c = omega (arith, fits .lengths .highs) in
+            storable-part (atℤ (c .highs) u) (omega (arith, le-parts (fits .nonneg u i), le-parts (fits .order u i))) (high-small u i);
+      }
+
+  pub lows-storable : AllStorable (c .lows)
+  lows-storable =
+      record {
+        each =
+            λ u l.
+            let i : u < items c = omega (arith, fits .lengths .lows) in
+            storable-part (atℤ (c .lows) u) (from-zero (fits .nonneg u i)) (omega (arith, le-parts (fits .order u i), from-zero (fits .nonneg u i), high-small u i));
+      }
+
+  pub weights-storable : AllStorable (c .weights)
+  weights-storable =
+      record {
+        each =
+            λ u l.
+            let i : u < items c = omega (arith, fits .lengths .weights) in
+            storable-part (atℤ (c .weights) u) (from-zero (fits .weights u i))
+            (omega (arith, sumTo-summand (items c) (λ w. over (atℤ (c .weights) w)) u i, weights-small c fits));
       }
 
 -- ---- splitting

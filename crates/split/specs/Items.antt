@@ -6,7 +6,11 @@ use lib.IntN.{ℤ}
 use lib.ListN.{length}
 use Rattle.numbers.specs.Lists.{atℤ}
 use Rattle.numbers.specs.Signed.{over}
-use Rattle.scratch_spec.specs.Columns.{width, MASS, LOW, HIGH, WEIGHT, FIRST, NEXT, col, num}
+use Rattle.scratch_spec.specs.Columns.{width, MASS, LOW, HIGH, WEIGHT, FIRST, NEXT, Storable, col, num}
+
+-- numbers of which each can stand in any column
+pub record AllStorable (xs : List ℤ) : Type 0 where
+  pub each : (u : ℕ) → u < length xs → Storable LOW (atℤ xs u)
 
 pub record ItemsLoaded (t l h w : List ℤ) (M : ℤ) (s : List ℤ) : Type 0 where
   pub size : width * length t + width ≤ length s

@@ -23,7 +23,7 @@ pub fn split(
 {
     let verdict = verdict::verdict(targets, lows, highs, weights, total, masses);
     // a row for each of 512 items, and one for the total
-    let mut scratch = [0i64; 3078];
+    let mut scratch = [0i64; 2052];
     work::split_by(
         verdict,
         targets,

@@ -1,13 +1,13 @@
 // The split of a call's items in a lent scratch: the columns from the lists, one chain through all items, the walks, and the masses out.
 ghost use mathlib.Core.Path.{_≡_};
 ghost use mathlib.Core.Bool.{true};
-ghost use Prim.Native.Nat.{_+_, _*_, _≤_, _<_};
+ghost use Prim.Native.Nat.{ℕ, _+_, _*_, _≤_, _<_};
 ghost use lib.IntN.{pos};
 ghost use lib.ListN.{length};
 ghost use Rattle.numbers.specs.Lists.{atℤ, listTo};
 ghost use Rattle.caas_spec.specs.Operation.{splitCall, splitMasses, splitDeficit, splitVerdict, SplitFits, SplitContract};
-ghost use Rattle.split.specs.Items.{ItemsLoaded};
-ghost use Rattle.scratch_spec.specs.Columns.{width, MASS, NEXT, num, Laid};
+ghost use Rattle.split.specs.Items.{AllStorable, ItemsLoaded};
+ghost use Rattle.scratch_spec.specs.Columns.{width, MASS, NEXT, Storable, num, Laid};
 use caas_spec::SplitAnswer;
 use numbers::Checked;
 use numbers::arith::above;
@@ -25,7 +25,7 @@ use walks::group::split_group;
 
 // A column of the first rows, from a list.
 fn fill(s: &mut [i64], k: usize, xs: &[i64])
-    requires { ⌜ (k < 6) × (width * length (now xs) ≤ length (now s)) ⌝ }
+    requires { ⌜ (k < 6) × (width * length (now xs) ≤ length (now s)) × ((u : ℕ) → u < length (now xs) → Storable k (atℤ (now xs) u)) ⌝ }
     ensures { λ _.
         ⌜ Laid k (length (now (xs .entry))) (λ u. true) (atℤ (now (xs .entry))) (length (now (xs .entry))) (now (s .entry)) (now (s .exit)) ⌝ }
 {
@@ -66,6 +66,7 @@ fn load(targets: &[i64], lows: &[i64], highs: &[i64], weights: &[i64], total: i6
     requires { ⌜ (length (now targets) ≤ 512) × (length (now lows) ≡ length (now targets)) × (length (now highs) ≡ length (now targets)) ×
         (length (now weights) ≡ length (now targets)) ⌝ }
     requires { ⌜ width * length (now targets) + width ≤ length (now s) ⌝ }
+    requires { ⌜ AllStorable (now lows) × AllStorable (now highs) × AllStorable (now weights) ⌝ }
     ensures { λ _. ⌜ ItemsLoaded (now (targets .entry)) (now (lows .entry)) (now (highs .entry)) (now (weights .entry)) total (now (s .exit)) ⌝ }
 {
     fill(s, MASS, targets);

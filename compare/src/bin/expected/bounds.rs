@@ -6,7 +6,7 @@
 use crate::output;
 use crate::runs::{targets, words};
 use compare::numbers::{each_case, Numbers};
-use compare::operations::{step, Balance};
+use compare::operations::{step, Balance, SCRATCH_PER_NODE};
 use compare::program::Program;
 use compare::random::flat;
 use compare::ratios::bounds;
@@ -17,7 +17,7 @@ const MOST: usize = 600;
 /// The line of the step, from kept masses 0 at scale 0.
 fn step_line(workspace: &mut Workspace, source: i32, field: &Field) -> String {
     let balance = Balance { total: 0, scale: 0 };
-    let (mut kept, mut scratch) = (vec![0; field.targets.len()], vec![0; 6 * field.parents.len()]);
+    let (mut kept, mut scratch) = (vec![0; field.targets.len()], vec![0; SCRATCH_PER_NODE * field.parents.len()]);
     let result = step(workspace, balance, &mut kept, source, balance.scale, &field.lists(), &mut scratch);
     format!("step {}{}\n", output::repaired(result.map(|(repair, _)| repair)), output::words(&kept))
 }

@@ -2,7 +2,7 @@
 //! by a generator, some with a fault, and a line after every 500.
 
 use crate::output;
-use compare::operations::{open, step, Balance, Refusal};
+use compare::operations::{open, step, Balance, Refusal, SCRATCH_PER_NODE};
 use compare::program::Program;
 use compare::random::{binary, chain, flat};
 use compare::tree::{sum, Field, Workspace};
@@ -73,7 +73,7 @@ fn one_step(workspace: &mut Workspace, draws: &mut Draws, run: &mut Run) {
         9 => (balance.scale, scale) = (31, 31),
         _ => {}
     }
-    let mut scratch = vec![0; 6 * field.parents.len()];
+    let mut scratch = vec![0; SCRATCH_PER_NODE * field.parents.len()];
     match step(workspace, balance, &mut run.kept, source, scale, &field.lists(), &mut scratch) {
         Ok((repair, new)) => {
             run.accepted += 1;

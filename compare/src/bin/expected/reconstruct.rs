@@ -4,13 +4,13 @@
 use crate::output;
 use crate::runs::{targets, words};
 use compare::numbers::{each_case, Numbers};
-use compare::operations::reconstruct;
+use compare::operations::{reconstruct, SCRATCH_PER_NODE};
 use compare::program::Program;
 use compare::tree::{Field, Workspace};
 
-/// How many of the first 6 numbers for each node are 0, how many of the later ones are 5, and how many of the first.
+/// How many of the first `SCRATCH_PER_NODE` numbers for each node are 0, how many of the later ones are 5, and how many of the first.
 fn scratch_counts(scratch: &[i64], nodes: usize) -> [usize; 3] {
-    let (first, later) = scratch.split_at(scratch.len().min(6 * nodes));
+    let (first, later) = scratch.split_at(scratch.len().min(SCRATCH_PER_NODE * nodes));
     let count = |list: &[i64], value| list.iter().filter(|&&number| number == value).count();
     [count(first, 0), count(later, 5), count(first, 5)]
 }

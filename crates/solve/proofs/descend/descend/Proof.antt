@@ -27,7 +27,7 @@ link-requires : tie.Need-link-requires Inv-loop μ-loop
 link-requires c κs =
     let p = c .before .before .pre in
     let d = p .1 .1 .1 in
-    (valid-one (d .plan .valid), (p .0 .1, (d .plan .size, d .heads)))
+    (valid-one (d .plan .valid), (p .0 .1, (d .plan .size, (d .heads, d .plan .few))))
 
 loop-holds : tie.Need-loop-holds Inv-loop μ-loop
 loop-holds c = (down-start (plan (c .before)) (c .before .link .ensures .0), c .before .before .before .before .pre .0 .0)

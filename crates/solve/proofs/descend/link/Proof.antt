@@ -9,7 +9,7 @@ use lib.ListN.{length}
 use Rattle.numbers.specs.Lists.{at}
 use Rattle.scratch_spec.specs.Columns.{FIRST, InRow}
 use Rattle.solve_spec.specs.Descent.{LinkState}
-use Rattle.solve_spec.proofs.LinkLaws.{link-start, node-row, parent-row, link-turn, link-end}
+use Rattle.solve_spec.proofs.LinkLaws.{link-start, node-row, parent-row, first-most, link-turn, link-end}
 use Rattle.solve.proofs.descend.link.Statement.{statement}
 use Rattle.solve.proofs.descend.link.Tie as tie
 
@@ -36,7 +36,7 @@ sub-root : tie.Need-sub-root Inv-loop μ-loop
 sub-root c = omega (arith, c .before .pre .0 .some, c .before .pre .0 .room)
 
 loop-holds : tie.Need-loop-holds Inv-loop μ-loop
-loop-holds c = link-start (c .before .pre .0) _ (c .before .pre .1 .1 .1)
+loop-holds c = link-start (c .before .pre .0) _ (c .before .pre .1 .1 .1 .0)
 
 sub-u : tie.Need-sub-u Inv-loop μ-loop
 sub-u c = search needs
@@ -55,8 +55,12 @@ get-above-requires c κs = row (c .before) refl
 
 put-requires : tie.Need-put-requires Inv-loop μ-loop
 put-requires c κs =
-    let t = turn (c .before .before .before) in
-    (node-row (start t .pre .0) (start t .pre .1 .1 .0) (t .before .loop .inv) (t .loop-test .taken), c .before .get-above .ensures .1)
+    let w = c .before .before .before in
+    let t = turn w in (
+      node-row (start t .pre .0) (start t .pre .1 .1 .0) (t .before .loop .inv) (t .loop-test .taken),
+      c .before .get-above .ensures .1,
+      λ j. omega (arith, start t .pre .1 .1 .1 .1, first-most (start t .pre .0) (start t .pre .1 .1 .0) (t .before .loop .inv) (t .loop-test .taken) (w .wide .ensures) (c .before .get-above .ensures .0)),
+    )
 
 stored-index-requires : tie.Need-stored-index-requires Inv-loop μ-loop
 stored-index-requires c κs = search needs
@@ -64,7 +68,11 @@ stored-index-requires c κs = search needs
 put-requires-2 : tie.Need-put-requires-2 Inv-loop μ-loop
 put-requires-2 c κs =
     let w = c .before .before .before .before .before .before .before in
-    (row w (c .before .before .before .put .ensures .long), omega (arith, turn w .before .loop .inv .within))
+    let t = turn w in (
+      row w (c .before .before .before .put .ensures .long),
+      omega (arith, t .before .loop .inv .within, start t .pre .1 .1 .1 .1),
+      λ j. omega (arith, t .before .loop .inv .within, start t .pre .1 .1 .1 .1, c .stored-index .ensures),
+    )
 
 loop-less : tie.Need-loop-less Inv-loop μ-loop
 loop-less c = search needs

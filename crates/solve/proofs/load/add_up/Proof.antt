@@ -5,7 +5,7 @@ use mir.Syntax.{w64}
 use mir.Val.{SFits, toZ, ofZ}
 use mir.ValLaws.{toZ-ofZ}
 use borrow.Author.Needs.{needs, sfits-of}
-use Rattle.scratch_spec.specs.Columns.{Stored}
+use Rattle.scratch_spec.specs.Columns.{Storable, Stored}
 use Rattle.solve_spec.proofs.GatherLaws.{sum-read}
 use Rattle.solve.proofs.load.add_up.Statement.{statement}
 use Rattle.solve.proofs.load.add_up.Tie as tie
@@ -23,7 +23,15 @@ add-sum c =
     subst (SFits w64) (sym (sum-read (x .result) (y .result) (sfits-of (x .ok)) (sfits-of (y .ok)) (x .ensures) (y .ensures))) (c .before .before .before .before .pre .2)
 
 put-signed-requires : tie.Need-put-signed-requires
-put-signed-requires c κs = search needs
+put-signed-requires c κs =
+    let x = c .before .before .before .get-signed in
+    let y = c .before .get-signed2 in
+    let s = c .before .before .before .before .before in (
+      s .pre .0,
+      subst (Storable (s .args .k))
+          (sym (ap (λ z. toZ w64 (ofZ w64 z)) (sum-read (x .result) (y .result) (sfits-of (x .ok)) (sfits-of (y .ok)) (x .ensures) (y .ensures)) ∙ toZ-ofZ w64 _ (s .pre .2)))
+          (s .pre .3),
+    )
 
 same-length : tie.Need-same-length
 same-length c = search needs

@@ -25,6 +25,7 @@ put-requires c κs =
     let s = c .before .before .before in (
       in-row _ (s .args .m) _ _ (s .pre .1) (c .before .loop-test .taken) (omega (arith, c .before .before .loop .inv .2 .kept .long)),
       omega arith,
+      λ j. omega arith,
     )
 
 add-u : tie.Need-add-u Inv-loop μ-loop

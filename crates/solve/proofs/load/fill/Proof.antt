@@ -35,6 +35,7 @@ put-requires c κs =
     let s = c .before .before .before .before .before .before in (
       in-row _ (s .args .m) _ _ (s .pre .1) (omega arith) (omega (arith, c .before .before .before .before .loop .inv .1 .kept .long)),
       omega (arith, c .broad .ensures .1),
+      λ j. omega (arith, c .broad .ensures .0, s .pre .3 _ (c .before .before .before .loop-test .taken)),
     )
 
 add-u : tie.Need-add-u Inv-loop μ-loop

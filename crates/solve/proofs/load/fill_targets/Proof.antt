@@ -8,7 +8,7 @@ use mir.Syntax.{w64}
 use mir.Val.{toZ, ofZ}
 use mir.ValLaws.{toZ-ofZ}
 use borrow.Author.Needs.{needs, sfits-of}
-use Rattle.scratch_spec.proofs.ColumnLaws.{in-row}
+use Rattle.scratch_spec.proofs.ColumnLaws.{storable-mass, in-row}
 use Rattle.solve_spec.specs.Gather.{Targets}
 use Rattle.solve_spec.proofs.GatherLaws.{targets-start, targets-next}
 use Rattle.solve.proofs.load.fill_targets.Statement.{statement}
@@ -29,7 +29,7 @@ target-at-requires c κs = search needs
 put-signed-requires : tie.Need-put-signed-requires Inv-loop μ-loop
 put-signed-requires c κs =
     let s = c .before .before .before .before in
-    in-row _ (s .args .m) _ _ (omega arith) (omega arith) (omega (arith, c .before .before .before .loop .inv .1 .laid .kept .long))
+    (in-row _ (s .args .m) _ _ (omega arith) (omega arith) (omega (arith, c .before .before .before .loop .inv .1 .laid .kept .long)), storable-mass _)
 
 add-u : tie.Need-add-u Inv-loop μ-loop
 add-u c = search needs

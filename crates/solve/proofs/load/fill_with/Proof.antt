@@ -23,7 +23,8 @@ put-requires : tie.Need-put-requires Inv-loop μ-loop
 put-requires c κs =
     let s = c .before .before .before in (
       in-row _ (s .args .m) _ _ (s .pre .1) (c .before .loop-test .taken) (omega (arith, c .before .before .loop .inv .1 .kept .long)),
-      s .pre .0,
+      omega (arith, s .pre .0),
+      λ j. s .pre .0,
     )
 
 add-u : tie.Need-add-u Inv-loop μ-loop

@@ -1,4 +1,5 @@
 -- `solve::whole_tree::prepare` meets its contract: each list is loaded into its column, and no later store touches it (`prepared`).
+use mathlib.Core.Path.{refl}
 use native.Mathlib.Omega.{arith}
 use Rattle.solve_spec.proofs.SolveLaws.{root-in, total-small, valid-for, lows-small, highs-small, weights-small, prepared}
 use borrow.Author.Needs.{needs}
@@ -46,7 +47,7 @@ put-requires c κs =
     let long₃ = c .before .before .before .before .before .before .before .before .before .load2 .ensures .kept .long in
     let long₄ = c .before .before .before .before .before .before .load3 .ensures .kept .long in
     let long₅ = c .before .before .fill-with .ensures .kept .long in
-    (record { column = omega arith; row = omega (arith, ok .size, root-in ok, long, long₂, long₃, long₄, long₅) }, omega (arith, total-small ok))
+    (record { column = omega arith; row = omega (arith, ok .size, root-in ok, long, long₂, long₃, long₄, long₅) }, omega (arith, total-small ok), λ j. absurd (j refl))
 
 same-length : tie.Need-same-length
 same-length c = search needs

@@ -1,5 +1,5 @@
 -- `split::work::fill` meets its contract: the rows passed have their elements.
-use mathlib.Core.Path.{_≡_, refl}
+use mathlib.Core.Path.{_≡_, refl, sym, subst}
 use mathlib.Core.Bool.{true}
 use Prim.Native.Nat.{_-_, _≤_}
 use native.Mathlib.Omega.{arith}
@@ -8,7 +8,7 @@ use mir.Syntax.{w64}
 use mir.Val.{toZ, ofZ}
 use Rattle.numbers.specs.Lists.{atℤ}
 use Rattle.numbers.proofs.SignedLaws.{read-back}
-use Rattle.scratch_spec.specs.Columns.{Laid}
+use Rattle.scratch_spec.specs.Columns.{Storable, Laid}
 use Rattle.scratch_spec.proofs.ColumnLaws.{in-row, laid-start, laid-next}
 use borrow.Author.Needs.{needs}
 use Rattle.split.proofs.work.fill.Statement.{statement}
@@ -30,7 +30,12 @@ shared-slice-copy-out-put-signed : tie.Need-shared-slice-copy-out-put-signed Inv
 shared-slice-copy-out-put-signed c = search needs
 
 put-signed-requires : tie.Need-put-signed-requires Inv-loop μ-loop
-put-signed-requires c κs = in-row _ (length (c .before .before .before .before .args .xs .now)) _ _ (c .before .before .before .before .pre .0) (c .before .before .loop-test .taken) (omega (arith, c .before .before .before .loop .inv .1 .kept .long))
+put-signed-requires c κs =
+    let s = c .before .before .before .before in
+    let u = c .before .before .before .loop .u in (
+      in-row _ (length (s .args .xs .now)) _ _ (s .pre .0) (c .before .before .loop-test .taken) (omega (arith, c .before .before .before .loop .inv .1 .kept .long)),
+      subst (Storable (s .args .k)) (sym (read-back (atℤ (s .args .xs .now) u) (c .put-signed-arg2 .given))) (s .pre .2 u (c .before .before .loop-test .taken)),
+    )
 
 add-u : tie.Need-add-u Inv-loop μ-loop
 add-u c = search needs

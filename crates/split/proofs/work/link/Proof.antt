@@ -26,7 +26,7 @@ stored-index-requires : tie.Need-stored-index-requires Inv-loop μ-loop
 stored-index-requires c κs = search needs
 
 put-requires : tie.Need-put-requires Inv-loop μ-loop
-put-requires c κs = (in-row _ (c .before .before .before .before .args .n) _ _ (omega arith) (c .before .before .loop-test .taken) (omega (arith, c .before .before .before .loop .inv .1 .kept .long)), omega arith)
+put-requires c κs = (in-row _ (c .before .before .before .before .args .n) _ _ (omega arith) (c .before .before .loop-test .taken) (omega (arith, c .before .before .before .loop .inv .1 .kept .long)), omega arith, λ j. omega arith)
 
 add-u : tie.Need-add-u Inv-loop μ-loop
 add-u c = search needs

@@ -7,7 +7,7 @@ use mir.ValLaws.{toZ-ofZ}
 use Rattle.caas_spec.specs.Operation.{SplitCall, splitCall}
 use Rattle.scratch_spec.proofs.NodeLaws.{deficit-read}
 use Rattle.split.specs.Items.{ItemsLoaded}
-use Rattle.split.proofs.ItemLaws.{items-splitting, masses-done, deficit-done}
+use Rattle.split.proofs.ItemLaws.{lows-storable, highs-storable, weights-storable, items-splitting, masses-done, deficit-done}
 use borrow.Author.Needs.{needs}
 use Rattle.split.proofs.work.split_items.Statement.{statement}
 use Rattle.split.proofs.work.split_items.Tie as tie
@@ -21,7 +21,10 @@ loaded c =
     subst (λ (z : ℤ). ItemsLoaded (s .args .targets .now) (s .args .lows .now) (s .args .highs .now) (s .args .weights .now) z (c .load .last .1 .1 .1 .1 .1 .0)) (toZ-ofZ w64 (s .args .total) (s .fits .total)) (c .load .ensures)
 
 load-requires : tie.Need-load-requires
-load-requires c κs = search needs
+load-requires c κs =
+    let s = c .before in
+    let f = s .pre .0 in
+    ((f .few, f .lengths .lows, f .lengths .highs, f .lengths .weights), (s .pre .1, (lows-storable (call s) f, highs-storable (call s) f, weights-storable (call s) f)))
 
 split-group-requires : tie.Need-split-group-requires
 split-group-requires c κs = items-splitting (call (c .before .before .before .before)) (c .before .before .before .before .pre .0) _ (loaded (c .before .before))

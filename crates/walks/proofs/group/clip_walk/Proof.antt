@@ -1,6 +1,6 @@
 -- `walks::group::clip_walk` meets its contract: `ClipState` holds from turn to turn (`clip-start`, `clip-turn`), and at the chain's end
 -- it is what is ensured (`clip-end`). The chain rises, so the walk ends; both sums are part of sums below 2 ^ 31.
-use mathlib.Core.Path.{_≡_, sym, _∙_, subst}
+use mathlib.Core.Path.{_≡_, refl, sym, _∙_, subst}
 use Prim.Native.Nat.{ℕ, _-_, _<_}
 use native.Mathlib.Omega.{arith}
 use borrow.Author.Needs.{needs}
@@ -56,7 +56,11 @@ index-requires-2 : tie.Need-index-requires-2 Inv-loop μ-loop
 index-requires-2 c κs = search needs
 
 put-requires : tie.Need-put-requires Inv-loop μ-loop
-put-requires c κs = (row (turn (c .before)) MASS (omega arith), c .before .before .before .before .before .before .clip-at .ensures .1)
+put-requires c κs = (
+  row (turn (c .before)) MASS (omega arith),
+  c .before .before .before .before .before .before .clip-at .ensures .1,
+  λ n. absurd (n refl),
+)
 
 add-sum : tie.Need-add-sum Inv-loop μ-loop
 add-sum c =

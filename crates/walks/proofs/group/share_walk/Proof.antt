@@ -1,6 +1,6 @@
 -- `walks::group::share_walk` meets its contract: `ShareState` holds from turn to turn (`share-start`, `share-turn`), and at the chain's
 -- end it is what is ensured (`share-end`). The chain rises, so the walk ends; d and the sums are below 2 ^ 31, so all that is computed fits.
-use mathlib.Core.Path.{_≡_, sym, _∙_, subst}
+use mathlib.Core.Path.{_≡_, refl, sym, _∙_, subst}
 use Prim.Native.Nat.{ℕ, _+_, _*_, _-_, _≤_, _<_, _^_}
 use native.Mathlib.Omega.{arith}
 use borrow.Author.Needs.{needs}
@@ -140,6 +140,7 @@ put-requires c κs =
       moved-small (start t .args .down) (x .result) (c .before .before .smaller .result) (room .result) (c .moved-by .ensures) (share-within (c .before .before))
           (subst (λ z. moved (start t .args .down) z (room .result) < 2 ^ 63) (sym (x .ensures .0)) (room .ensures .2))
           (x .ensures .1),
+      λ n. absurd (n refl),
     )
 
 add-before : tie.Need-add-before Inv-loop μ-loop

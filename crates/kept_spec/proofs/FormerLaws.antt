@@ -1,0 +1,63 @@
+-- Step agrees with its former version: only the bound of check 3 differs, and with scratch enough for each the two refuse alike, give one
+-- answer and leave the same kept masses. Assumes nothing.
+use mathlib.Core.Path.{_≡_, ap}
+use mathlib.Core.List.{List, [], _∷_}
+use Prim.Native.Nat.{ℕ, _*_, _≤_}
+use native.Mathlib.Omega.{arith}
+use lib.Dec.{leb}
+use lib.IntN.{ℤ}
+use lib.ListN.{length}
+use Rattle.numbers.specs.Checks.{first, after}
+use Rattle.qlt_spec.specs.Field.{Lists, nodes, scratchPerNode}
+use Rattle.qlt_spec.specs.Checks.{checkValues, checkReach}
+use Rattle.qlt_spec.specs.Operation.{cleared}
+use Rattle.qlt_spec.specs.Former.{formerPerNode}
+use Rattle.qlt_spec.proofs.CheckLaws.{shape-by}
+use Rattle.qlt_spec.proofs.FormerLaws.{both-enough, tells-agree, tells-former}
+use Rattle.kept_spec.specs.declared.Balance.{Balance}
+use Rattle.kept_spec.specs.declared.Stepped.{Stepped}
+use Rattle.kept_spec.specs.Open.{checkTotal}
+use Rattle.kept_spec.specs.Step.{StepCall, stepCall, next, newTotal, checkSameScale, checkKept, stepVerdict, StepContract}
+use Rattle.kept_spec.specs.Former.{formerStepVerdict, FormerStepContract}
+use Rattle.kept_spec.proofs.StepLaws.{step-tells-injective}
+
+module _ (b : Balance) (kept : List ℕ) (source : ℤ) (scale : ℕ) (f : Lists) (s s′ : List ℤ) where
+  -- the call by a scratch
+  abbrev given : List ℤ → StepCall
+  given t = stepCall b kept source scale f t
+
+  -- only the bound differs: by scratches of which the test of 3 decides alike, the verdict is the same
+  pub former-step-by :
+      leb (formerPerNode * nodes f) (length s) ≡ leb (scratchPerNode * nodes f) (length s′) → formerStepVerdict (given s) ≡ stepVerdict (given s′)
+  unfolding formerStepVerdict stepVerdict
+  former-step-by e =
+      ap (λ v.
+      first
+      (v
+      ∷ checkSameScale scale (b .scale)
+      ∷ checkValues f
+      ∷ checkKept kept (b .total)
+      ∷ checkTotal (next (given s))
+      ∷ checkReach (f .safeLows) (f .safeHighs) (newTotal (given s))
+      ∷ []))
+      (shape-by formerPerNode scratchPerNode (length kept) f (length s) (length s′) e)
+
+  module _ (enough : formerPerNode * nodes f ≤ length s) (enough′ : scratchPerNode * nodes f ≤ length s′) where
+    -- the same answer, so the same balance, outcome, change, sum shared out or refusal, and the same kept masses
+    pub former-step-agrees :
+        (answer answer′ : Stepped) {y y′ : List ℕ} {t t′ : List ℤ}
+        → FormerStepContract (given s) answer y t → StepContract (given s′) answer′ y′ t′ → (answer ≡ answer′) × (y ≡ y′)
+    former-step-agrees answer answer′ p q =
+        let r = tells-agree (former-step-by (both-enough f enough enough′)) p q in
+        (step-tells-injective answer answer′ (r .0), r .1)
+
+    -- what this version answers and keeps, the former one does
+    pub former-step-holds :
+        (answer : Stepped) {y : List ℕ} {t : List ℤ} → StepContract (given s′) answer y t
+        → FormerStepContract (given s) answer y (after (formerStepVerdict (given s)) (cleared (formerPerNode * nodes f) s) s)
+    former-step-holds answer q = tells-former (former-step-by (both-enough f enough enough′)) q
+
+-- of one call, with any scratch of 6 × m numbers or more
+pub former-step-verdict : (c : StepCall) → formerPerNode * nodes (c .lists) ≤ length (c .scratch) → formerStepVerdict c ≡ stepVerdict c
+former-step-verdict c h =
+    former-step-by (c .balance) (c .kept) (c .source) (c .scale) (c .lists) (c .scratch) (c .scratch) (both-enough (c .lists) h (omega arith))
