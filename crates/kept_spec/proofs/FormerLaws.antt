@@ -1,6 +1,6 @@
 -- Step agrees with its former version: only the bound of check 3 differs, and with scratch enough for each the two refuse alike, give one
 -- answer and leave the same kept masses. Assumes nothing.
-use mathlib.Core.Path.{_≡_, ap}
+use mathlib.Core.Path.{_≡_, sym, ap}
 use mathlib.Core.List.{List, [], _∷_}
 use Prim.Native.Nat.{ℕ, _*_, _≤_}
 use native.Mathlib.Omega.{arith}
@@ -13,11 +13,12 @@ use Rattle.qlt_spec.specs.Checks.{checkValues, checkReach}
 use Rattle.qlt_spec.specs.Operation.{cleared}
 use Rattle.qlt_spec.specs.Former.{formerPerNode}
 use Rattle.qlt_spec.proofs.CheckLaws.{shape-by}
-use Rattle.qlt_spec.proofs.FormerLaws.{both-enough, tells-agree, tells-former}
+use Rattle.qlt_spec.proofs.FormerLaws.{both-enough, tells-agree, tells-alike}
 use Rattle.kept_spec.specs.declared.Balance.{Balance}
 use Rattle.kept_spec.specs.declared.Stepped.{Stepped}
 use Rattle.kept_spec.specs.Open.{checkTotal}
 use Rattle.kept_spec.specs.Step.{StepCall, stepCall, next, newTotal, checkSameScale, checkKept, stepVerdict, StepContract}
+use Rattle.kept_spec.specs.Account.{Event, Promised}
 use Rattle.kept_spec.specs.Former.{formerStepVerdict, FormerStepContract}
 use Rattle.kept_spec.proofs.StepLaws.{step-tells-injective}
 
@@ -55,9 +56,21 @@ module _ (b : Balance) (kept : List ℕ) (source : ℤ) (scale : ℕ) (f : Lists
     pub former-step-holds :
         (answer : Stepped) {y : List ℕ} {t : List ℤ} → StepContract (given s′) answer y t
         → FormerStepContract (given s) answer y (after (formerStepVerdict (given s)) (cleared (formerPerNode * nodes f) s) s)
-    former-step-holds answer q = tells-former (former-step-by (both-enough f enough enough′)) q
+    former-step-holds answer q = tells-alike (former-step-by (both-enough f enough enough′)) q
 
 -- of one call, with any scratch of 6 × m numbers or more
 pub former-step-verdict : (c : StepCall) → formerPerNode * nodes (c .lists) ≤ length (c .scratch) → formerStepVerdict c ≡ stepVerdict c
 former-step-verdict c h =
     former-step-by (c .balance) (c .kept) (c .source) (c .scale) (c .lists) (c .scratch) (c .scratch) (both-enough (c .lists) h (omega arith))
+
+-- a step of the former version with that much is one of this version but for the scratch that it left: demand 3 speaks of it
+pub former-promised :
+    (e : Event) → formerPerNode * nodes (e .call .lists) ≤ length (e .call .scratch) → FormerStepContract (e .call) (e .answer) (e .kept) (e .scratch)
+    → Promised
+    (record {
+      call = e .call;
+      answer = e .answer;
+      kept = e .kept;
+      scratch = after (stepVerdict (e .call)) (cleared (scratchPerNode * nodes (e .call .lists)) (e .call .scratch)) (e .call .scratch);
+    })
+former-promised e h q = tells-alike (sym (former-step-verdict (e .call) h)) q

@@ -13,7 +13,7 @@ use Rattle.numbers.specs.Checks.{Answered, answered, after}
 use Rattle.qlt_spec.specs.declared.Reconstructed.{Reconstructed}
 use Rattle.qlt_spec.specs.Field.{Lists, nodes, scratchPerNode, field}
 use Rattle.qlt_spec.specs.Masses.{treeMasses}
-use Rattle.qlt_spec.specs.Operation.{ReconstructCall, reconstructCall, reconstructVerdict, cleared, RepairTellsWith, RepairTells, ReconstructContract}
+use Rattle.qlt_spec.specs.Operation.{ReconstructCall, reconstructCall, reconstructVerdict, cleared, RepairTellsWith, ReconstructContract}
 use Rattle.qlt_spec.specs.Former.{formerPerNode, formerVerdict, FormerContract}
 use Rattle.qlt_spec.proofs.OperationLaws.{checks-by, reconstruct-tells-injective}
 
@@ -24,24 +24,24 @@ both-enough f {s} {s′} h h′ = le-leb _ s h ∙ sym (le-leb _ s′ h′)
 pub both-short : (f : Lists) {s s′ : ℕ} → s < formerPerNode * nodes f → s′ < scratchPerNode * nodes f → leb (formerPerNode * nodes f) s ≡ leb (scratchPerNode * nodes f) s′
 both-short f {s} {s′} h h′ = lt-leb _ s h ∙ sym (lt-leb _ s′ h′)
 
--- ---- two versions of an operation, Reconstruct or Step, that give x where they accept
+-- ---- two versions of an operation, Reconstruct or Step, that give x where they accept and clear p and p′ numbers for each node
 
-module _ {X : Type 0} {v v′ : Checked} {x : X} {f : Lists} {M : ℕ} {masses : List ℕ} {s s′ : List ℤ} (e : v ≡ v′) where
+module _ {X : Type 0} {p p′ : ℕ} {v v′ : Checked} {x : X} {f : Lists} {M : ℕ} {masses : List ℕ} {s s′ : List ℤ} (e : v ≡ v′) where
   -- by one verdict both tell the same and leave the same masses
   pub tells-agree :
       {told told′ : Answered X} {y y′ : List ℕ} {t t′ : List ℤ}
-      → RepairTellsWith formerPerNode v (reconstructCall f M masses s) x told y t
-      → RepairTells v′ (reconstructCall f M masses s′) x told′ y′ t′ → (told ≡ told′) × (y ≡ y′)
-  tells-agree p q = (
-    p .answers ∙ ap (λ w. answered w x) e ∙ sym (q .answers),
-    p .leaves .writes ∙ ap (λ w. after w (treeMasses (field f) M) masses) e ∙ sym (q .leaves .writes),
+      → RepairTellsWith p v (reconstructCall f M masses s) x told y t
+      → RepairTellsWith p′ v′ (reconstructCall f M masses s′) x told′ y′ t′ → (told ≡ told′) × (y ≡ y′)
+  tells-agree q q′ = (
+    q .answers ∙ ap (λ w. answered w x) e ∙ sym (q′ .answers),
+    q .leaves .writes ∙ ap (λ w. after w (treeMasses (field f) M) masses) e ∙ sym (q′ .leaves .writes),
   )
 
-  -- and what this version tells and writes, the former one does
-  pub tells-former :
-      {told : Answered X} {y : List ℕ} {t : List ℤ} → RepairTells v′ (reconstructCall f M masses s′) x told y t
-      → RepairTellsWith formerPerNode v (reconstructCall f M masses s) x told y (after v (cleared (formerPerNode * nodes f) s) s)
-  tells-former q =
+  -- and what the one tells and writes, the other does
+  pub tells-alike :
+      {told : Answered X} {y : List ℕ} {t : List ℤ} → RepairTellsWith p′ v′ (reconstructCall f M masses s′) x told y t
+      → RepairTellsWith p v (reconstructCall f M masses s) x told y (after v (cleared (p * nodes f) s) s)
+  tells-alike q =
       record {
         answers = q .answers ∙ ap (λ w. answered w x) (sym e);
         leaves = record { writes = q .leaves .writes ∙ ap (λ w. after w (treeMasses (field f) M) masses) (sym e); clears = refl };
@@ -71,7 +71,7 @@ module _ (f : Lists) (M : ℕ) (masses : List ℕ) (s s′ : List ℤ) where
     pub former-holds :
         (answer : Reconstructed) {y : List ℕ} {t : List ℤ} → ReconstructContract (reconstructCall f M masses s′) answer y t
         → FormerContract (reconstructCall f M masses s) answer y (after (formerVerdict (reconstructCall f M masses s)) (cleared (formerPerNode * nodes f) s) s)
-    former-holds answer q = tells-former (former-by (both-enough f enough enough′)) q
+    former-holds answer q = tells-alike (former-by (both-enough f enough enough′)) q
 
 -- of one call, with any scratch of 6 × m numbers or more
 pub former-verdict : (c : ReconstructCall) → formerPerNode * nodes (c .lists) ≤ length (c .scratch) → formerVerdict c ≡ reconstructVerdict c
