@@ -2,18 +2,20 @@
 -- answer and leave the same kept masses. Assumes nothing.
 use mathlib.Core.Path.{_≡_, sym, ap}
 use mathlib.Core.List.{List, [], _∷_}
-use Prim.Native.Nat.{ℕ, _*_, _≤_}
+use Prim.Native.Nat.{ℕ, _*_, _≤_, _<_}
 use native.Mathlib.Omega.{arith}
 use lib.Dec.{leb}
 use lib.IntN.{ℤ}
 use lib.ListN.{length}
+use Rattle.numbers.specs.declared.Checked.{Checked}
+use Rattle.numbers.specs.declared.Checked.the-variants.{Fail}
 use Rattle.numbers.specs.Checks.{first, after}
 use Rattle.qlt_spec.specs.Field.{Lists, nodes, scratchPerNode}
 use Rattle.qlt_spec.specs.Checks.{checkValues, checkReach}
-use Rattle.qlt_spec.specs.Operation.{cleared}
+use Rattle.qlt_spec.specs.Operation.{ShapeFits, cleared}
 use Rattle.qlt_spec.specs.Former.{formerPerNode}
 use Rattle.qlt_spec.proofs.CheckLaws.{shape-by}
-use Rattle.qlt_spec.proofs.FormerLaws.{both-enough, tells-agree, tells-alike}
+use Rattle.qlt_spec.proofs.FormerLaws.{both-enough, tells-agree, tells-alike, former-shape}
 use Rattle.kept_spec.specs.declared.Balance.{Balance}
 use Rattle.kept_spec.specs.declared.Stepped.{Stepped}
 use Rattle.kept_spec.specs.Open.{checkTotal}
@@ -21,6 +23,17 @@ use Rattle.kept_spec.specs.Step.{StepCall, stepCall, next, newTotal, che
 use Rattle.kept_spec.specs.Account.{Event, Promised}
 use Rattle.kept_spec.specs.Former.{formerStepVerdict, FormerStepContract}
 use Rattle.kept_spec.proofs.StepLaws.{step-tells-injective}
+
+-- the checks of a step after 1 to 3
+abbrev later : Balance → List ℕ → ℤ → ℕ → Lists → List ℤ → List Checked
+later b kept source scale f s =
+    let c = stepCall b kept source scale f s in
+    checkSameScale scale (b .scale)
+    ∷ checkValues f
+    ∷ checkKept kept (b .total)
+    ∷ checkTotal (next c)
+    ∷ checkReach (f .safeLows) (f .safeHighs) (newTotal c)
+    ∷ []
 
 module _ (b : Balance) (kept : List ℕ) (source : ℤ) (scale : ℕ) (f : Lists) (s s′ : List ℤ) where
   -- the call by a scratch
@@ -32,15 +45,7 @@ module _ (b : Balance) (kept : List ℕ) (source : ℤ) (scale : ℕ) (f : Lists
       leb (formerPerNode * nodes f) (length s) ≡ leb (scratchPerNode * nodes f) (length s′) → formerStepVerdict (given s) ≡ stepVerdict (given s′)
   unfolding formerStepVerdict stepVerdict
   former-step-by e =
-      ap (λ v.
-      first
-      (v
-      ∷ checkSameScale scale (b .scale)
-      ∷ checkValues f
-      ∷ checkKept kept (b .total)
-      ∷ checkTotal (next (given s))
-      ∷ checkReach (f .safeLows) (f .safeHighs) (newTotal (given s))
-      ∷ []))
+      ap (λ v. first (v ∷ later b kept source scale f s))
       (shape-by formerPerNode scratchPerNode (length kept) f (length s) (length s′) e)
 
   module _ (enough : formerPerNode * nodes f ≤ length s) (enough′ : scratchPerNode * nodes f ≤ length s′) where
@@ -62,6 +67,15 @@ module _ (b : Balance) (kept : List ℕ) (source : ℤ) (scale : ℕ) (f : Lists
 pub former-step-verdict : (c : StepCall) → formerPerNode * nodes (c .lists) ≤ length (c .scratch) → formerStepVerdict c ≡ stepVerdict c
 former-step-verdict c h =
     former-step-by (c .balance) (c .kept) (c .source) (c .scale) (c .lists) (c .scratch) (c .scratch) (both-enough (c .lists) h (omega arith))
+
+-- where this version finds enough scratch and the former one too little, that one refuses with 3
+pub former-step-refuses :
+    (c : StepCall) → ShapeFits (c .lists) (length (c .kept)) (length (c .scratch)) → length (c .scratch) < formerPerNode * nodes (c .lists)
+    → formerStepVerdict c ≡ Fail 3 0
+unfolding formerStepVerdict
+former-step-refuses c h l =
+    ap (λ v. first (v ∷ later (c .balance) (c .kept) (c .source) (c .scale) (c .lists) (c .scratch)))
+    (former-shape (c .lists) (length (c .kept)) (length (c .scratch)) h l)
 
 -- a step of the former version with that much is one of this version but for the scratch that it left: demand 3 speaks of it
 pub former-promised :

@@ -1,7 +1,8 @@
 -- Reconstruct agrees with its former version: only the bound of check 3 differs, and with scratch enough for each the two refuse alike, give
 -- one answer and leave the same masses. Assumes nothing.
 use mathlib.Core.Path.{_≡_, refl, sym, _∙_, ap}
-use mathlib.Core.List.{List}
+use mathlib.Core.Logic.{inl, inr}
+use mathlib.Core.List.{List, [], _∷_}
 use Prim.Native.Nat.{ℕ, _*_, _≤_, _<_}
 use native.Mathlib.Omega.{arith}
 use lib.Dec.{leb}
@@ -9,12 +10,15 @@ use lib.IntN.{ℤ}
 use lib.ListN.{length}
 use borrow.Author.Tests.{le-leb, lt-leb}
 use Rattle.numbers.specs.declared.Checked.{Checked}
-use Rattle.numbers.specs.Checks.{Answered, answered, after}
+use Rattle.numbers.specs.declared.Checked.the-variants.{Fail}
+use Rattle.numbers.specs.Checks.{Answered, answered, after, first, Broken}
 use Rattle.qlt_spec.specs.declared.Reconstructed.{Reconstructed}
 use Rattle.qlt_spec.specs.Field.{Lists, nodes, scratchPerNode, field}
 use Rattle.qlt_spec.specs.Masses.{treeMasses}
-use Rattle.qlt_spec.specs.Operation.{ReconstructCall, reconstructCall, reconstructVerdict, cleared, RepairTellsWith, ReconstructContract}
+use Rattle.qlt_spec.specs.Checks.{shapeWith, checkValues, checkReach}
+use Rattle.qlt_spec.specs.Operation.{ReconstructCall, reconstructCall, reconstructVerdict, shapeRules, ShapeFits, cleared, RepairTellsWith, ReconstructContract}
 use Rattle.qlt_spec.specs.Former.{formerPerNode, formerVerdict, FormerContract}
+use Rattle.qlt_spec.proofs.CheckLaws.{shape-decides, shape-by}
 use Rattle.qlt_spec.proofs.OperationLaws.{checks-by, reconstruct-tells-injective}
 
 -- the test of 3, where both have enough scratch and where both have too little
@@ -76,3 +80,23 @@ module _ (f : Lists) (M : ℕ) (masses : List ℕ) (s s′ : List ℤ) where
 -- of one call, with any scratch of 6 × m numbers or more
 pub former-verdict : (c : ReconstructCall) → formerPerNode * nodes (c .lists) ≤ length (c .scratch) → formerVerdict c ≡ reconstructVerdict c
 former-verdict c h = former-by (c .lists) (c .total) (c .masses) (c .scratch) (c .scratch) (both-enough (c .lists) h (omega arith))
+
+-- ---- where this version finds enough scratch and the former one too little, that one refuses with 3
+
+pub former-shape : (f : Lists) (k s : ℕ) → ShapeFits f k s → s < formerPerNode * nodes f → shapeWith formerPerNode k f s ≡ Fail 3 0
+unfolding shapeRules Broken
+former-shape f k s h l =
+    shape-by formerPerNode scratchPerNode k f s 0 (both-short f l none)
+    ∙ shape-decides f k 0 .fails 3 0 .1 (inr ((h .some, h .few), inr ((h .nodes-room, h .nodes-few), inl (refl, (refl, λ r. absurd (omega (arith, none, r .scratch)))))))
+  where
+    -- no scratch at all is too little for this version too
+    none : 0 < scratchPerNode * nodes f
+    none = omega (arith, h .some, h .nodes-room)
+
+pub former-refuses :
+    (c : ReconstructCall) → ShapeFits (c .lists) (length (c .masses)) (length (c .scratch)) → length (c .scratch) < formerPerNode * nodes (c .lists)
+    → formerVerdict c ≡ Fail 3 0
+unfolding formerVerdict
+former-refuses c h l =
+    ap (λ v. first (v ∷ checkValues (c .lists) ∷ checkReach (c .lists .safeLows) (c .lists .safeHighs) (c .total) ∷ []))
+    (former-shape (c .lists) (length (c .masses)) (length (c .scratch)) h l)
