@@ -8,6 +8,7 @@ use lib.Signed.{_≤ℤ_}
 use mir.Syntax.{w32, w64}
 use mir.Val.{SFits, toZ, ofZ}
 use mir.ValLaws.{toZ-ofZ}
+use Rattle.numbers.specs.declared.Checked.{Checked}
 use Rattle.numbers.specs.declared.Checked.the-variants.{Pass}
 use Rattle.numbers.specs.Checks.{Answered, accepted, maxTotal}
 use Rattle.numbers.proofs.SignedLaws.{signed, about, add-parts, parts-le}
@@ -15,7 +16,7 @@ use Rattle.qlt_spec.specs.declared.Repair.{Repair}
 use Rattle.qlt_spec.specs.Operation.{reconstructCall, ReconstructFits, repair, RepairContract}
 use Rattle.qlt_spec.proofs.OperationLaws.{told-result, contract-done}
 use Rattle.kept_spec.specs.declared.Stepped.the-variants.{Accepted}
-use Rattle.kept_spec.specs.Step.{StepCall, stepCall, next, newTotal, repairCall, stepVerdict, StepFits, stepResult, stepTells, StepContract}
+use Rattle.kept_spec.specs.Step.{StepCall, stepCall, next, newTotal, repairCall, StepFits, stepResult, stepTells, StepBy}
 use Rattle.kept_spec.proofs.StepLaws.{fits-repair}
 
 pub next-fits : (t : ℕ) (z : ℤ) → t < 2 ^ 32 → SFits w32 z → SFits w64 (pos t +ℤ z)
@@ -47,8 +48,8 @@ repaired-step c M e {told} {kept} {scratch} p = subst (λ x. RepairContract Pass
 
 -- and its answer is the repair with the balance of that total, at the scale of the one given
 pub step-done :
-    (c : StepCall) {r : Repair} {kept : List ℕ} {scratch : List ℤ} → stepVerdict c ≡ Pass → RepairContract Pass (repairCall c) (accepted r) kept scratch
-    → StepContract c (Accepted r (record { total = r .total; scale = c .balance .scale })) kept scratch
+    (c : StepCall) {v : Checked} {r : Repair} {kept : List ℕ} {scratch : List ℤ} → v ≡ Pass → RepairContract Pass (repairCall c) (accepted r) kept scratch
+    → StepBy v c (Accepted r (record { total = r .total; scale = c .balance .scale })) kept scratch
 unfolding stepTells repair
 step-done c e p =
     contract-done (repairCall c) (stepResult c) e

@@ -1,4 +1,4 @@
-// What an accepted step does: for this crate and the crates above. Relies on `reconstruct`.
+// What an accepted step does. Relies on `reconstruct`.
 ghost use Rattle.numbers.specs.declared.Checked.the-variants.{Pass};
 ghost use Rattle.numbers.specs.Checks.{accepted};
 ghost use Rattle.qlt_spec.specs.Field.{lists};

@@ -1,23 +1,25 @@
-// The operations Open and Step on a kept field. Public: `open`, `step`; for the crates above `totals` (12, 13, 17 and the new total) and
-// `accepted` (what an accepted step does). What holds of every run of these calls is proved in `kept_spec` (demand 3). Relies on
-// `reconstruct`, `kept_spec`, `field_checks`, `qlt_spec` and `numbers`.
+// The operations Open and Step on a kept field. Public: `open`, `step`; for the crates above `extended` and `verdict` (Step, and Open's
+// checks, with a check put in) and `totals` (12, 13, 17 and the new total). What holds of every run of these calls is proved in `kept_spec` (demand 3). Relies on `reconstruct`,
+// `kept_spec`, `field_checks`, `qlt_spec` and `numbers`.
 ghost use Rattle.kept_spec.specs.Open.{OpenContract};
 ghost use Rattle.kept_spec.specs.Step.{stepCall, StepContract};
 ghost use Rattle.qlt_spec.specs.Field.{lists};
 use kept_spec::Balance;
 use kept_spec::Opened;
 use kept_spec::Stepped;
+use numbers::Checked;
 
-pub mod accepted;
+mod accepted;
+pub mod extended;
 pub mod totals;
-mod verdict;
+pub mod verdict;
 mod work;
 
 // Adds up n kept masses and returns their balance at the scale given.
 pub fn open(kept: &[u32], scale: u32) -> Opened
     ensures { λ r. ⌜ OpenContract (now (kept .entry)) scale r ⌝ }
 {
-    let verdict = verdict::open_verdict(kept, scale);
+    let verdict = verdict::open_verdict(Checked::Pass, kept, scale);
     work::open_by(verdict, kept, scale)
 }
 
@@ -45,22 +47,8 @@ pub fn step(
         (now (scratch .entry)))
         r (now (kept .exit)) (now (scratch .exit)) ⌝ }
 {
-    let verdict = verdict::step_verdict(
-        balance,
-        kept,
-        source,
-        scale,
-        targets,
-        lows,
-        highs,
-        safe_lows,
-        safe_highs,
-        weights,
-        parents,
-        scratch,
-    );
-    work::step_by(
-        verdict,
+    extended::step_with(
+        Checked::Pass,
         balance,
         kept,
         source,

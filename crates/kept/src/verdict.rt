@@ -1,8 +1,9 @@
-// The checks of Open and Step in 01's order.
+// The checks of Open and Step in 01's order, with a check `own` put in, of the operation that calls them; `Pass` if there is none.
 ghost use mathlib.Core.Path.{_≡_};
+ghost use mathlib.Core.List.{[], _∷_};
 ghost use Rattle.qlt_spec.specs.Field.{lists};
-ghost use Rattle.kept_spec.specs.Open.{openVerdict};
-ghost use Rattle.kept_spec.specs.Step.{stepCall, stepVerdict};
+ghost use Rattle.kept_spec.specs.Open.{openVerdictWith};
+ghost use Rattle.kept_spec.specs.Step.{stepCall, stepVerdictWith};
 use crate::totals::add_source;
 use crate::totals::check_kept;
 use crate::totals::check_same_scale;
@@ -19,21 +20,23 @@ use numbers::checks::check_scale;
 use numbers::checks::then;
 use numbers::lists::sum_of;
 
-// Open's checks: 1; 9; 13.
-pub fn open_verdict(kept: &[u32], scale: u32) -> Checked
-    ensures { λ r. ⌜ r ≡ openVerdict (now (kept .entry)) scale ⌝ }
+// Open's checks: 1; 9; the one put in; 13.
+pub fn open_verdict(own: Checked, kept: &[u32], scale: u32) -> Checked
+    ensures { λ r. ⌜ r ≡ openVerdictWith (own ∷ []) (now (kept .entry)) scale ⌝ }
 {
     let count = check_count(kept.len());
     let in_range = check_scale(scale);
-    let inputs = then(count, in_range);
+    let shape = then(count, in_range);
+    let inputs = then(shape, own);
     if let Checked::Fail { number, place } = inputs {
         return Checked::Fail { number, place };
     }
     check_total(signed(sum_of(kept)))
 }
 
-// Step's checks: 1 to 3, the kept list counted under 3; 17; 4 to 7; 12; 13; 8.
+// Step's checks: 1 to 3, the kept list counted under 3; 17; 4 to 7; 12; 13; the one put in; 8.
 pub fn step_verdict(
+    own: Checked,
     balance: Balance,
     kept: &[u32],
     source: i32,
@@ -48,7 +51,7 @@ pub fn step_verdict(
     scratch: &[i64],
 ) -> Checked
     ensures { λ r.
-        ⌜ r ≡ stepVerdict
+        ⌜ r ≡ stepVerdictWith (own ∷ [])
         (stepCall balance (now (kept .entry)) source scale
         (lists (now (targets .entry)) (now (lows .entry)) (now (highs .entry)) (now («safe_lows» .entry)) (now («safe_highs» .entry))
         (now (weights .entry)) (now (parents .entry)))
@@ -91,5 +94,6 @@ pub fn step_verdict(
     if let Checked::Fail { number, place } = small {
         return Checked::Fail { number, place };
     }
-    check_reach(safe_lows, safe_highs, whole(next))
+    let reach = check_reach(safe_lows, safe_highs, whole(next));
+    then(own, reach)
 }

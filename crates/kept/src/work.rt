@@ -1,8 +1,9 @@
-// What Open and Step leave and answer, by their verdicts.
+// What an opening and a step leave and answer, by a verdict that passes only where Open and Step fit.
 ghost use mathlib.Core.Path.{_≡_};
+ghost use Rattle.numbers.specs.declared.Checked.the-variants.{Pass};
 ghost use Rattle.qlt_spec.specs.Field.{lists};
-ghost use Rattle.kept_spec.specs.Open.{openVerdict, OpenContract};
-ghost use Rattle.kept_spec.specs.Step.{stepCall, stepVerdict, StepContract};
+ghost use Rattle.kept_spec.specs.Open.{OpenFits, OpenBy};
+ghost use Rattle.kept_spec.specs.Step.{stepCall, StepFits, StepBy};
 use crate::accepted::step_on;
 use kept_spec::Balance;
 use kept_spec::Opened;
@@ -11,10 +12,10 @@ use numbers::Checked;
 use numbers::arith::narrow;
 use numbers::lists::sum_of;
 
-// Open's answer, by its verdict.
+// An opening's answer.
 pub fn open_by(verdict: Checked, kept: &[u32], scale: u32) -> Opened
-    requires { ⌜ verdict ≡ openVerdict (now kept) scale ⌝ }
-    ensures { λ r. ⌜ OpenContract (now (kept .entry)) scale r ⌝ }
+    requires { ⌜ (verdict ≡ Pass → OpenFits (now kept) scale) ⌝ }
+    ensures { λ r. ⌜ OpenBy verdict (now (kept .entry)) scale r ⌝ }
 {
     if let Checked::Fail { number, place } = verdict {
         return Opened::Refused { number, place };
@@ -25,7 +26,7 @@ pub fn open_by(verdict: Checked, kept: &[u32], scale: u32) -> Opened
     })
 }
 
-// What a step leaves and answers, by its verdict: a refused one leaves the lists as they were.
+// What a step leaves and answers: a refused one leaves the lists as they were.
 pub fn step_by(
     verdict: Checked,
     balance: Balance,
@@ -41,11 +42,11 @@ pub fn step_by(
     parents: &[u32],
     scratch: &mut [i64],
 ) -> Stepped
-    requires { ⌜ verdict ≡ stepVerdict
+    requires { ⌜ (verdict ≡ Pass → StepFits
         (stepCall balance (now kept) source scale
-        (lists (now targets) (now lows) (now highs) (now «safe_lows») (now «safe_highs») (now weights) (now parents)) (now scratch)) ⌝ }
+        (lists (now targets) (now lows) (now highs) (now «safe_lows») (now «safe_highs») (now weights) (now parents)) (now scratch))) ⌝ }
     ensures { λ r.
-        ⌜ StepContract
+        ⌜ StepBy verdict
         (stepCall balance (now (kept .entry)) source scale
         (lists (now (targets .entry)) (now (lows .entry)) (now (highs .entry)) (now («safe_lows» .entry)) (now («safe_highs» .entry))
         (now (weights .entry)) (now (parents .entry)))

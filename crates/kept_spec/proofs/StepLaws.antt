@@ -12,13 +12,13 @@ use lib.ListN.{length}
 use Rattle.numbers.specs.declared.Checked.{Checked}
 use Rattle.numbers.specs.declared.Checked.the-variants.{Pass, Fail}
 use Rattle.numbers.specs.Sums.{ℕ-adds, sumTo}
-use Rattle.numbers.specs.Lists.{at, sum}
+use Rattle.numbers.specs.Lists.{at, sum, All}
 use Rattle.numbers.specs.Checks.{Answered, accepted, refused, first, both, Rule, Decides, DecidesAll, Holds, Broken, numbersOf, RefuseWith, Extends, maxTotal}
 use Rattle.numbers.proofs.TestLaws.{eq-means, le-means, and-means, injective}
 use Rattle.numbers.proofs.SignedLaws.{le-parts, parts-le, from-zero-whole}
-use Rattle.numbers.proofs.CheckLaws.{decides-unless, decides-then, decides-append, holds-append, broken-append}
-use Rattle.numbers.proofs.ChainLaws.{extends-fail, isOne, not-broken, refuse-with}
-use Rattle.qlt_spec.specs.Field.{Lists, field, sumCells}
+use Rattle.numbers.proofs.CheckLaws.{first-append, decides-unless, decides-then, decides-none, decides-append, holds-append, broken-append}
+use Rattle.numbers.proofs.ChainLaws.{extends-own, extends-pass, extends-fail, isOne, not-broken, refuse-with}
+use Rattle.qlt_spec.specs.Field.{Lists, scratchPerNode, field, sumCells}
 use Rattle.qlt_spec.specs.Masses.{treeMasses}
 use Rattle.qlt_spec.specs.Facts.{FieldFacts}
 use Rattle.qlt_spec.specs.Checks.{shapeOf, checkValues, checkReach}
@@ -29,7 +29,7 @@ use Rattle.qlt_spec.proofs.OperationLaws.{told-passed, told-result, told-masses
 use Rattle.kept_spec.specs.declared.Stepped.{Stepped}
 use Rattle.kept_spec.specs.declared.Stepped.the-variants.{Accepted, Refused}
 use Rattle.kept_spec.specs.Open.{checkTotal, totalRule}
-use Rattle.kept_spec.specs.Step.{StepCall, next, newTotal, repairCall, checkSameScale, checkKept, stepChecks, stepVerdict, scaleRule, keptRule, stepRules, StepFits, StepResult, stepResult, stepTells, stepAnswer}
+use Rattle.kept_spec.specs.Step.{StepCall, next, newTotal, repairCall, checkSameScale, checkKept, stepChecksWith, stepChecks, stepVerdict, stepVerdictWith, scaleRule, keptRule, stepRulesWith, stepRules, StepFits, StepResult, stepResult, stepTells, stepAnswer}
 use Rattle.kept_spec.specs.Account.{Event, told, Promised, AcceptedFacts, gain, gainBy}
 use Rattle.kept_spec.proofs.OpenLaws.{total-decides}
 
@@ -57,25 +57,39 @@ module _ (c : StepCall) where
   abbrev SameScale : Type 0
   SameScale = (c .scale ≤ 30) × (c .scale ≡ c .balance .scale)
 
-  -- 12, 13 and 8
-  abbrev pub totals : Checked
-  totals = first (checkKept (c .kept) (c .balance .total) ∷ checkTotal (next c) ∷ checkReach (c .lists .safeLows) (c .lists .safeHighs) (newTotal c) ∷ [])
+  -- 8
+  abbrev pub reach : Checked
+  reach = checkReach (c .lists .safeLows) (c .lists .safeHighs) (newTotal c)
+
+  -- 12, 13, the checks put in and 8
+  abbrev pub totalsWith : List Checked → Checked
+  totalsWith own = first (checkKept (c .kept) (c .balance .total) ∷ checkTotal (next c) ∷ (own ++ (reach ∷ [])))
+
+  abbrev totalRulesWith : List Rule → List Rule
+  totalRulesWith own = keptRule (c .kept) (c .balance .total) ∷ totalRule (next c) ∷ (own ++ (reachRule (c .lists) (newTotal c) ∷ []))
 
   abbrev totalRules : List Rule
-  totalRules = keptRule (c .kept) (c .balance .total) ∷ totalRule (next c) ∷ reachRule (c .lists) (newTotal c) ∷ []
-
-  totals-decides : DecidesAll totals totalRules
-  totals-decides =
-      decides-then _ _ _ _ (kept-decides (c .kept) (c .balance .total))
-      (decides-then _ _ _ _ (total-decides (next c)) (reaches-decides (c .lists) (newTotal c)))
+  totalRules = totalRulesWith []
 
   -- accepted if every rule holds; refused with a number at a place if those before it hold and this one is broken there
+  module _ (own : List Checked) (rules : List Rule) (d : DecidesAll (first own) rules) where
+    totals-decides : DecidesAll (totalsWith own) (totalRulesWith rules)
+    totals-decides =
+        decides-then _ _ _ _ (kept-decides (c .kept) (c .balance .total))
+        (decides-then _ _ _ _ (total-decides (next c))
+        (subst (λ v. DecidesAll v (rules ++ (reachRule (c .lists) (newTotal c) ∷ []))) (first-append own (reach ∷ []))
+        (decides-append (first own) (first (reach ∷ [])) rules (reachRule (c .lists) (newTotal c) ∷ []) d (reaches-decides (c .lists) (newTotal c)))))
+
+    pub step-decides-with : DecidesAll (stepVerdictWith own c) (stepRulesWith rules c)
+    unfolding stepVerdictWith
+    step-decides-with =
+        decides-append (shapeOf k (c .lists) s) (both same (both (checkValues (c .lists)) (totalsWith own))) (shapeRules (c .lists) k s) _ (shape-decides (c .lists) k s)
+        (decides-then same _ _ _ (same-scale-decides (c .scale) (c .balance .scale))
+        (decides-append (checkValues (c .lists)) (totalsWith own) (valueRules (c .lists)) (totalRulesWith rules) (values-decides (c .lists)) totals-decides))
+
   pub step-decides : DecidesAll (stepVerdict c) (stepRules c)
-  unfolding stepVerdict
-  step-decides =
-      decides-append (shapeOf k (c .lists) s) (both same (both (checkValues (c .lists)) totals)) (shapeRules (c .lists) k s) _ (shape-decides (c .lists) k s)
-      (decides-then same _ _ _ (same-scale-decides (c .scale) (c .balance .scale))
-      (decides-append (checkValues (c .lists)) totals (valueRules (c .lists)) totalRules (values-decides (c .lists)) totals-decides))
+  unfolding stepVerdict stepVerdictWith
+  step-decides = step-decides-with [] [] decides-none
 
   pub step-refuses : (number place : ℕ) → (stepVerdict c ≡ Fail number place) ↔ Broken (stepRules c) number place
   step-refuses = step-decides .fails
@@ -123,6 +137,18 @@ module _ (c : StepCall) where
 
   pub step-accepts : (stepVerdict c ≡ Pass) ↔ StepFits c
   step-accepts = (λ e. rules-fit .0 (step-decides .passes .0 e), λ f. step-decides .passes .1 (rules-fit .1 f))
+
+  -- with checks put in, the chain is Step's extended by them
+  pub with-extends :
+      {Put : ℕ → Type 0} (own : List Checked) → All (λ v. (number place : ℕ) → v ≡ Fail number place → Put number) own
+      → Extends Put (stepChecksWith scratchPerNode own c) (stepChecks c)
+  with-extends own h =
+      Extends.shared (Extends.shared (Extends.shared (Extends.shared (Extends.shared (extends-own own h (Extends.shared Extends.end))))))
+
+  -- so where it passes, Step fits
+  pub with-fits : (own : Checked) → stepVerdictWith (own ∷ []) c ≡ Pass → StepFits c
+  unfolding stepVerdictWith stepVerdict
+  with-fits own e = step-accepts .0 (extends-pass (with-extends {Put = λ n. Unit} (own ∷ []) (All.more (λ n p q. tt) All.none)) e)
 
   -- 'As Reconstruct 1 to 7 .. Then 8': Step's checks are Reconstruct's for the new total, with 17, 12 and 13 put in
   abbrev pub Own : ℕ → Type 0

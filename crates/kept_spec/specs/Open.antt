@@ -1,7 +1,7 @@
 -- The operation Open: its verdict and its answer. Assumes nothing.
 use mathlib.Core.Path.{_≡_}
 use mathlib.Core.Bool.{_&&_}
-use mathlib.Core.List.{List, [], _∷_}
+use mathlib.Core.List.{List, [], _∷_, _++_}
 use Prim.Native.Nat.{ℕ, _≤_, _<_}
 use lib.IntN.{ℤ, pos}
 use lib.Signed.{leZ, _≤ℤ_}
@@ -20,16 +20,26 @@ checkTotal z = unless (leZ (pos 0) z && leZ z (pos maxTotal)) 13 0
 abbrev pub totalRule : ℤ → Rule
 totalRule z = rule 13 ((pos 0 ≤ℤ z) × (z ≤ℤ pos maxTotal))
 
--- 1; 9 (02), of the scale k; 13
+-- 1; 9 (02), of the scale k; the checks `own` of an operation that opens, none of Open itself; 13
+abbrev pub openChecksWith : List Checked → List ℕ → ℕ → List Checked
+openChecksWith own kept k = checkCount (length kept) ∷ checkScale k ∷ (own ++ (checkTotal (pos (sum kept)) ∷ []))
+
 abbrev pub openChecks : List ℕ → ℕ → List Checked
-openChecks kept k = checkCount (length kept) ∷ checkScale k ∷ checkTotal (pos (sum kept)) ∷ []
+openChecks kept k = openChecksWith [] kept k
 
 unfoldable pub openVerdict : List ℕ → ℕ → Checked
 openVerdict kept k = first (openChecks kept k)
 
--- what the checks mean
+-- the verdict with checks put in before 13
+unfoldable pub openVerdictWith : List Checked → List ℕ → ℕ → Checked
+openVerdictWith own kept k = first (openChecksWith own kept k)
+
+-- what the checks mean, with rules put in as the checks are
+abbrev pub openRulesWith : List Rule → List ℕ → ℕ → List Rule
+openRulesWith own kept k = rule 1 ((0 < length kept) × (length kept ≤ 512)) ∷ rule 9 (k ≤ 30) ∷ (own ++ (totalRule (pos (sum kept)) ∷ []))
+
 unfoldable pub openRules : List ℕ → ℕ → List Rule
-openRules kept k = rule 1 ((0 < length kept) × (length kept ≤ 512)) ∷ rule 9 (k ≤ 30) ∷ totalRule (pos (sum kept)) ∷ []
+openRules kept k = openRulesWith [] kept k
 
 pub record OpenFits (kept : List ℕ) (k : ℕ) : Type 0 where
   pub some : 0 < length kept
@@ -50,6 +60,10 @@ abbrev pub openAnswer : Answered Balance → Opened
 openAnswer (accepted b) = Accepted b
 openAnswer (refused number place) = Refused number place
 
+-- what an opening answers by a verdict
+pub record OpenBy (v : Checked) (kept : List ℕ) (k : ℕ) (answer : Opened) : Type 0 where
+  pub answers : openTells answer ≡ answered v (openBalance kept k)
+
 -- the whole contract of the operation
-pub record OpenContract (kept : List ℕ) (k : ℕ) (answer : Opened) : Type 0 where
-  pub answers : openTells answer ≡ answered (openVerdict kept k) (openBalance kept k)
+abbrev pub OpenContract : List ℕ → ℕ → Opened → Type 0
+OpenContract kept k answer = OpenBy (openVerdict kept k) kept k answer

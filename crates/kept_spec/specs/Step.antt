@@ -53,22 +53,26 @@ checkSameScale k b = unless (leb k 30 && eqb k b) 17 0
 unfoldable pub checkKept : List ℕ → ℕ → Checked
 checkKept kept total = unless (eqb (sum kept) total) 12 0
 
--- 1 to 3, the kept list counted under 3; 17; 4 to 7; 12; 13; 8, where 3 asks for p numbers of scratch for each node
-abbrev pub stepChecksWith : ℕ → StepCall → List Checked
-stepChecksWith p c =
+-- 1 to 3, the kept list counted under 3; 17; 4 to 7; 12; 13; the checks `own` of an operation that steps, none of Step itself; 8, where 3 asks
+-- for p numbers of scratch for each node
+abbrev pub stepChecksWith : ℕ → List Checked → StepCall → List Checked
+stepChecksWith p own c =
     shapeWith p (length (c .kept)) (c .lists) (length (c .scratch))
     ∷ checkSameScale (c .scale) (c .balance .scale)
     ∷ checkValues (c .lists)
     ∷ checkKept (c .kept) (c .balance .total)
     ∷ checkTotal (next c)
-    ∷ checkReach (c .lists .safeLows) (c .lists .safeHighs) (newTotal c)
-    ∷ []
+    ∷ (own ++ (checkReach (c .lists .safeLows) (c .lists .safeHighs) (newTotal c) ∷ []))
 
 abbrev pub stepChecks : StepCall → List Checked
-stepChecks c = stepChecksWith scratchPerNode c
+stepChecks c = stepChecksWith scratchPerNode [] c
 
 unfoldable pub stepVerdict : StepCall → Checked
 stepVerdict c = first (stepChecks c)
+
+-- the verdict with checks put in before 8
+unfoldable pub stepVerdictWith : List Checked → StepCall → Checked
+stepVerdictWith own c = first (stepChecksWith scratchPerNode own c)
 
 -- ---- what the checks mean
 
@@ -78,12 +82,16 @@ scaleRule k b = rule 17 ((k ≤ 30) × (k ≡ b))
 abbrev pub keptRule : List ℕ → ℕ → Rule
 keptRule kept total = rule 12 (sum kept ≡ total)
 
-abbrev pub stepRules : StepCall → List Rule
-stepRules c =
+-- with rules put in before 8, as the checks are
+abbrev pub stepRulesWith : List Rule → StepCall → List Rule
+stepRulesWith own c =
     shapeRules (c .lists) (length (c .kept)) (length (c .scratch))
     ++ (scaleRule (c .scale) (c .balance .scale)
     ∷ (valueRules (c .lists)
-    ++ (keptRule (c .kept) (c .balance .total) ∷ totalRule (next c) ∷ reachRule (c .lists) (newTotal c) ∷ [])))
+    ++ (keptRule (c .kept) (c .balance .total) ∷ totalRule (next c) ∷ (own ++ (reachRule (c .lists) (newTotal c) ∷ [])))))
+
+abbrev pub stepRules : StepCall → List Rule
+stepRules c = stepRulesWith [] c
 
 pub record StepFits (c : StepCall) : Type 0 where
   pub shape : ShapeFits (c .lists) (length (c .kept)) (length (c .scratch))
@@ -114,6 +122,10 @@ abbrev pub stepAnswer : Answered StepResult → Stepped
 stepAnswer (accepted r) = Accepted (r .repair) (r .balance)
 stepAnswer (refused number place) = Refused number place
 
--- the whole contract of the operation: it leaves what the repair for the new total leaves, by Step's verdict
+-- what a step leaves and answers by a verdict: what the repair for the new total leaves
+abbrev pub StepBy : Checked → StepCall → Stepped → List ℕ → List ℤ → Type 0
+StepBy v c answer kept scratch = RepairTells v (repairCall c) (stepResult c) (stepTells answer) kept scratch
+
+-- the whole contract of the operation
 abbrev pub StepContract : StepCall → Stepped → List ℕ → List ℤ → Type 0
-StepContract c answer kept scratch = RepairTells (stepVerdict c) (repairCall c) (stepResult c) (stepTells answer) kept scratch
+StepContract c answer kept scratch = StepBy (stepVerdict c) c answer kept scratch

@@ -6,15 +6,17 @@
 // 1000000000000, so that the remainders by these, which rule out overflow, change none.
 // Relies on `kept`, which it tests, `kept_spec` and `qlt_spec` for the answers, `test_support`, and `numbers` in proofs.
 ghost use Prim.Native.Nat.{_<_, _≤_};
-use draws::draw;
-use draws::less;
 use kept_spec::Balance;
 use kept_spec::Opened;
 use kept_spec::Stepped;
 use qlt_spec::Repair;
+use test_support::draws::draw;
+use test_support::draws::less;
+use test_support::fields::cross;
+use test_support::fields::fill;
+use test_support::fields::fill_parents;
+use test_support::fields::nodes;
 
-mod draws;
-mod fields;
 mod output;
 
 // The generator's state, the calls accepted and refused so far, those refused with 17 among them, the balance standing, and what the accepted
@@ -134,7 +136,7 @@ fn step_by(
     requires { ⌜ m ≤ 15 ⌝ }
 {
     let mut scratch = [0i64; 60];
-    let nodes = &parents[..];
+    let all = &parents[..];
     kept::step(
         balance,
         kept,
@@ -146,7 +148,7 @@ fn step_by(
         safe_lows,
         safe_highs,
         weights,
-        &nodes[0..m],
+        &all[0..m],
         &mut scratch,
     )
 }
@@ -160,7 +162,7 @@ fn one_call(run: Run, kept: &mut [u32; 8]) -> Run {
     let mut safe_lows = [0u32; 8];
     let mut safe_highs = [0u32; 8];
     let mut weights = [0u32; 8];
-    let state = fields::fill(
+    let state = fill(
         kind.state,
         kept,
         &mut targets,
@@ -172,9 +174,9 @@ fn one_call(run: Run, kept: &mut [u32; 8]) -> Run {
     );
     let source = draw(state, 3001);
     let fault = draw(source.state, 14);
-    fields::cross(fault.value, &mut lows, &mut highs);
+    cross(fault.value, &mut lows, &mut highs);
     let mut parents = [0u32; 15];
-    fields::fill_parents(kind.value, fault.value, &mut parents);
+    fill_parents(kind.value, fault.value, &mut parents);
     let balance = run.balance;
     let answer = step_by(
         given_balance(balance, fault.value),
@@ -188,7 +190,7 @@ fn one_call(run: Run, kept: &mut [u32; 8]) -> Run {
         &safe_highs,
         &weights,
         &parents,
-        fields::nodes(kind.value),
+        nodes(kind.value),
     );
     counted(run, fault.state, answer)
 }

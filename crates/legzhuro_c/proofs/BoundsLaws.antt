@@ -19,9 +19,10 @@ use Rattle.bounds_spec.specs.Bounds.{Bounds, boundsOf, BoundsCall, boundsVerdic
 use Rattle.bounds_spec.specs.Consistency.{Uniform, Consistent}
 use Rattle.bounds_spec.proofs.BoundsLaws.{bounds-decides, bounds-numbers}
 use Rattle.bounds_spec.proofs.ConsistencyLaws.{step-consistent}
-use Rattle.legzhuro_c.specs.Calls.{returned, toldBy, stepValues, StepReturns, BoundsReturns, resultIn}
-use Rattle.legzhuro_c.proofs.CallLaws.{returned-fail}
-use Rattle.legzhuro_c.proofs.OwnLaws.{Numbered, numbered, told-own, step-own, step-short-returns}
+use Rattle.call_values.specs.Values.{returned, toldBy, stepValues, resultIn}
+use Rattle.call_values.proofs.ValueLaws.{returned-fail, Numbered, told-own, numbered}
+use Rattle.legzhuro_c.specs.Calls.{StepReturns, BoundsReturns}
+use Rattle.legzhuro_c.proofs.OwnLaws.{step-own, step-short-returns}
 
 module _ {c : BoundsCall} {a : Bounded} {left : Bounds} (p : BoundsContract c a left) where
   pub bounds-done : a ≡ Done → BoundsReturns c 0 left

@@ -1,8 +1,7 @@
 -- From an operation's contract to what its call returns and writes, accepted or refused. Assumes nothing.
 use mathlib.Core.Path.{_≡_, refl, sym, _∙_, ap, subst}
-use mathlib.Core.List.{List, [], _∷_, _++_}
+use mathlib.Core.List.{List, [], _∷_}
 use Prim.Native.Nat.{ℕ, _+_, _*_, _≤_, _<_, _^_}
-use borrow.Author.Tests.{le-leb, lt-leb}
 use lib.IntN.{ℤ}
 use lib.ListN.{length}
 use lib.Ieee.{Float}
@@ -12,7 +11,7 @@ use Rattle.numbers.specs.declared.Checked.{Checked}
 use Rattle.numbers.specs.declared.Checked.the-variants.{Pass, Fail}
 use Rattle.numbers.specs.Lists.{written}
 use Rattle.numbers.specs.Checks.{Answered, accepted, refused, answered, after, both, first, checkCount, checkLong}
-use Rattle.numbers.proofs.CheckLaws.{answered-accepted, answered-refused, after-pass, after-fail, both-pass, first-append, both-first, both-second, long-decides}
+use Rattle.numbers.proofs.CheckLaws.{answered-accepted, answered-refused, after-pass, after-fail, both-first, both-second, long-decides}
 use Rattle.caas_spec.specs.declared.SplitAnswer.{SplitAnswer}
 use Rattle.caas_spec.specs.declared.SplitAnswer.the-variants as split
 use Rattle.caas_spec.specs.Operation.{SplitCall, items, splitVerdict, splitMasses, splitDeficit, splitTells, SplitContract}
@@ -35,41 +34,9 @@ use Rattle.doubles_spec.specs.declared.Imported.{Imported}
 use Rattle.doubles_spec.specs.declared.Imported.the-variants as imported
 use Rattle.doubles_spec.specs.Import.{importVerdict, importUnits, importTells, ImportContract}
 use Rattle.doubles_spec.specs.Export.{exportVerdict}
-use Rattle.legzhuro_c.specs.Calls.{returned, splitCallVerdict, SplitReturns, openValues, openCallVerdict, balanceWords, OpenReturns, stepValues, stepCallVerdict, repairWords, StepReturns, importCallVerdict, unitsList, ImportReturns, exportCallVerdict, ValueReturns}
-
--- ---- what a verdict makes of the return value and of a lent list
-
-module _ {v : Checked} where
-  pub returned-pass : {r : ℕ} → v ≡ Pass → r ≡ 0 → r ≡ returned v
-  returned-pass e z = z ∙ ap returned (sym e)
-
-  pub returned-fail : {r number place : ℕ} → v ≡ Fail number place → r ≡ number + place * 2 ^ 32 → r ≡ returned v
-  returned-fail e z = z ∙ ap returned (sym e)
-
-pub after-by : {X : Type 0} {v w : Checked} (new old : X) → v ≡ w → after v new old ≡ after w new old
-after-by new old e = ap (λ x. after x new old) e
-
--- ---- a lent list with room, and one without
-
-pub long-passes : (k n : ℕ) → n ≤ k → checkLong k n ≡ Pass
-unfolding checkLong
-long-passes k n h = rw (le-leb n k h)
-
-pub long-fails : (k n : ℕ) → k < n → checkLong k n ≡ Fail 3 0
-unfolding checkLong
-long-fails k n h = rw (lt-leb n k h)
-
--- the room first, and then the operation's own verdict
-module _ (k n : ℕ) (v : Checked) where
-  pub room : n ≤ k → first (checkLong k n ∷ v ∷ []) ≡ v
-  room h = ap (λ w. both w (both v Pass)) (long-passes k n h) ∙ both-pass v
-
-  pub no-room : k < n → first (checkLong k n ∷ v ∷ []) ≡ Fail 3 0
-  no-room h = ap (λ w. both w (both v Pass)) (long-fails k n h)
-
--- checks of a call's own, and then the operation's verdict
-first-last : (vs : List Checked) (w : Checked) → first (vs ++ (w ∷ [])) ≡ both (first vs) w
-first-last vs w = sym (first-append vs (w ∷ [])) ∙ ap (both (first vs)) (both-pass w)
+use Rattle.call_values.specs.Values.{returned, openValues, balanceWords, stepValues, repairWords}
+use Rattle.call_values.proofs.ValueLaws.{returned-pass, returned-fail, after-by, room, no-room, first-last}
+use Rattle.legzhuro_c.specs.Calls.{splitCallVerdict, SplitReturns, openCallVerdict, OpenReturns, stepCallVerdict, StepReturns, importCallVerdict, unitsList, ImportReturns, exportCallVerdict, ValueReturns}
 
 -- ---- Split
 

@@ -27,10 +27,9 @@ use Rattle.files_spec.specs.declared.AnswerRead.{AnswerRead}
 use Rattle.files_spec.specs.declared.AnswerRead.the-variants as answer-read
 use Rattle.files_spec.proofs.WriteFieldLaws.{field-write-decides, field-write-numbers}
 use Rattle.files_spec.proofs.ReadAnswerLaws.{length-masses, answer-read-decides, answer-read-numbers, answer-read-accepts, answer-read-done, answer-read-refused}
-use Rattle.legzhuro_c.specs.Calls.{returned, toldBy}
+use Rattle.call_values.specs.Values.{returned, toldBy}
+use Rattle.call_values.proofs.ValueLaws.{returned-pass, returned-fail, after-by, Numbered, told-own, numbered}
 use Rattle.legzhuro_c.specs.FileCalls.{WriteFieldReturns, readValues, answerRoom, readAnswerVerdict, ReadAnswerFits, repairedWords, ReadAnswerReturns, repairedIn}
-use Rattle.legzhuro_c.proofs.CallLaws.{returned-pass, returned-fail, after-by}
-use Rattle.legzhuro_c.proofs.OwnLaws.{Numbered, numbered, told-own}
 
 -- ---- Write a field file
 

@@ -4,7 +4,7 @@ use mathlib.Core.Path.{_≡_, refl, sym, _∙_, ap, ap₂, subst}
 use mathlib.Core.Logic.{_⊎_, inl, inr, ⊎-elim}
 use mathlib.Core.Bool.{Bool, true, false, _&&_, cond}
 use mathlib.Core.List.{List, [], _∷_}
-use Prim.Native.Nat.{ℕ, zero, suc, _+_, _*_, _/_, _%_, _^_, _≤_, _<_}
+use Prim.Native.Nat.{ℕ, _≤_, _<_}
 use native.Mathlib.Omega.{arith}
 use lib.Dec.{ltb, leb, eqb}
 use lib.IntN.{ℤ}
@@ -13,19 +13,18 @@ use lib.Ieee.{Float}
 use Rattle.numbers.specs.declared.Checked.{Checked}
 use Rattle.numbers.specs.declared.Checked.the-variants.{Pass, Fail}
 use Rattle.numbers.specs.Lists.{atℤ, written}
-use Rattle.numbers.specs.Checks.{Answered, accepted, refused, answered, unless, both, checkCount, checkLong, Rule, rule, DecidesAll, OneOf, RefuseWith}
-use Rattle.numbers.proofs.TestLaws.{eq-means, lt-means, and-means, and-first, and-second}
+use Rattle.numbers.specs.Checks.{Answered, accepted, refused, answered, unless, both, checkCount, checkLong, rule}
+use Rattle.numbers.proofs.TestLaws.{eq-means}
 use Rattle.numbers.proofs.CheckLaws.{both-pass}
-use Rattle.numbers.proofs.ChainLaws.{fails-number, broken-first}
+use Rattle.numbers.proofs.ChainLaws.{broken-first}
 use Rattle.caas_spec.specs.Operation.{SplitCall, items, splitVerdict, splitMasses, splitDeficit, splitTells, splitAnswer, SplitContract}
 use Rattle.caas_spec.proofs.OperationLaws.{split-decides, split-numbers}
 use Rattle.qlt_spec.specs.Field.{cells, nodes}
 use Rattle.qlt_spec.specs.Checks.{checkNodes, checkShape}
 use Rattle.qlt_spec.specs.Operation.{repair, Leaves}
-use Rattle.kept_spec.specs.declared.Balance.{Balance}
-use Rattle.kept_spec.specs.Open.{openVerdict, openBalance, openTells, openAnswer, OpenContract}
+use Rattle.kept_spec.specs.Open.{openVerdict, openBalance, openAnswer, OpenContract}
 use Rattle.kept_spec.specs.Step.{StepCall, repairCall, stepVerdict, stepResult, stepAnswer, StepContract}
-use Rattle.kept_spec.proofs.OpenLaws.{open-decides, open-numbers}
+use Rattle.kept_spec.proofs.OpenLaws.{open-decides, open-numbers, open-answer-tells}
 use Rattle.kept_spec.proofs.StepLaws.{step-decides, step-numbers, answer-tells}
 use Rattle.doubles_spec.specs.declared.CellDoubles.{CellDoubles}
 use Rattle.doubles_spec.specs.declared.CellUnits.{CellUnits}
@@ -36,55 +35,9 @@ use Rattle.doubles_spec.specs.ExportSingle.{singleTells, singleAnswer, SingleCo
 use Rattle.doubles_spec.proofs.ImportLaws.{import-decides, import-refuses, import-numbers}
 use Rattle.doubles_spec.proofs.ExportLaws.{export-decides, export-numbers, export-meets}
 use Rattle.doubles_spec.proofs.SingleLaws.{single-meets}
-use Rattle.legzhuro_c.specs.Calls.{returned, toldBy, splitCallVerdict, SplitReturns, openValues, openCallVerdict, balanceWords, OpenReturns, stepValues, stepCallVerdict, repairWords, StepReturns, importCallVerdict, unitsList, ImportReturns, exportCallVerdict, ValueReturns, ExportReturns, SingleReturns, balanceIn, resultIn, unitsIn, valueIn}
-use Rattle.legzhuro_c.proofs.CallLaws.{after-by, long-passes, long-fails, room, no-room}
-
--- ---- a return value tells its verdict
-
--- a refusal's number fits the low 32 bits and is not 0
-abbrev pub InWord : ℕ → Type 0
-InWord number = (0 < number) × (number < 2 ^ 32)
-
-abbrev pub Numbered : Checked → Type 0
-Numbered v = (number place : ℕ) → v ≡ Fail number place → InWord number
-
-told-refused : {X : Type 0} (r : ℕ) (x : X) → 0 < r → toldBy r x ≡ refused (r % 2 ^ 32) (r / 2 ^ 32)
-told-refused zero x h = absurd (omega arith)
-told-refused (suc r) x h = refl
-
-pub told-returned : {X : Type 0} (v : Checked) (x : X) → Numbered v → toldBy (returned v) x ≡ answered v x
-told-returned Pass x h = refl
-told-returned (Fail number place) x h =
-    let b = h number place refl in
-    let low : (number + place * 2 ^ 32) % 2 ^ 32 ≡ number = omega (arith, b) in
-    let high : (number + place * 2 ^ 32) / 2 ^ 32 ≡ place = omega (arith, b) in
-    told-refused (number + place * 2 ^ 32) x (omega (arith, b)) ∙ ap₂ refused low high
-
--- and, where the call is accepted, the values that the lent list holds
-pub told-own : {X : Type 0} (v : Checked) (r : ℕ) (x y : X) → Numbered v → r ≡ returned v → (v ≡ Pass → x ≡ y) → toldBy r x ≡ answered v y
-told-own v r x y h e f = ap (λ n. toldBy n x) e ∙ told-returned v x h ∙ same v f
-  where
-    same : (w : Checked) → (w ≡ Pass → x ≡ y) → answered w x ≡ answered w y
-    same Pass g = ap accepted (g refl)
-    same (Fail number place) g = refl
-
--- ---- the numbers of an operation, each of which fits
-
-abbrev inWords : List ℕ → Bool
-inWords [] = true
-inWords (n ∷ ns) = (ltb 0 n && ltb n (2 ^ 32)) && inWords ns
-
-one-word : (ns : List ℕ) → inWords ns ≡ true → (n : ℕ) → OneOf ns n → InWord n
-unfolding OneOf
-one-word [] t n o = absurd o
-one-word (k ∷ ks) t n o =
-    ⊎-elim
-    (λ e. rw e (and-means (lt-means 0 k) (lt-means k (2 ^ 32)) .0 (and-first (ltb 0 k && ltb k (2 ^ 32)) (inWords ks) t)))
-    (λ q. one-word ks (and-second (ltb 0 k && ltb k (2 ^ 32)) (inWords ks) t) n q) o
-
--- so a verdict whose rules have these numbers is numbered: `numbered ns d w refl`
-pub numbered : {v : Checked} {rs : List Rule} (ns : List ℕ) → DecidesAll v rs → RefuseWith rs ns → inWords ns ≡ true → Numbered v
-numbered ns d w t n p e = one-word ns t n (w n .0 (fails-number d e))
+use Rattle.call_values.specs.Values.{returned, toldBy, openValues, balanceWords, stepValues, repairWords, balanceIn, resultIn}
+use Rattle.call_values.proofs.ValueLaws.{after-by, long-passes, long-fails, room, no-room, Numbered, told-own, numbered, balance-read, result-read}
+use Rattle.legzhuro_c.specs.Calls.{splitCallVerdict, SplitReturns, openCallVerdict, OpenReturns, stepCallVerdict, StepReturns, importCallVerdict, unitsList, ImportReturns, exportCallVerdict, ValueReturns, ExportReturns, SingleReturns, unitsIn, valueIn}
 
 -- ---- Split
 
@@ -146,15 +99,6 @@ module _ (c : SplitCall) (deficit : List ℤ) where
 pub open-numbered : (kept : List ℕ) (k : ℕ) → Numbered (openVerdict kept k)
 open-numbered kept k = numbered _ (open-decides kept k) (open-numbers kept k) refl
 
-open-tells : (a : Answered Balance) → openTells (openAnswer a) ≡ a
-unfolding openTells
-open-tells (accepted b) = refl
-open-tells (refused number place) = refl
-
-balance-read : (answer : List ℕ) (b : Balance) → balanceIn (written answer 0 (balanceWords b)) ≡ b
-unfolding written
-balance-read answer b = refl
-
 module _ (kept : List ℕ) (k : ℕ) (answer : List ℕ) (r : ℕ) (answer′ : List ℕ) where
   pub open-own : openValues ≤ length answer → OpenReturns kept k answer r answer′ → OpenContract kept k (openAnswer (toldBy r (balanceIn answer′)))
   unfolding openCallVerdict
@@ -163,7 +107,7 @@ module _ (kept : List ℕ) (k : ℕ) (answer : List ℕ) (r : ℕ) (answer′ : 
       let b = openBalance kept k in
       record {
         answers =
-            open-tells (toldBy r (balanceIn answer′))
+            open-answer-tells (toldBy r (balanceIn answer′))
             ∙ told-own (openVerdict kept k) r (balanceIn answer′) b (open-numbered kept k) (q .returns ∙ ap returned v)
             (λ e. ap balanceIn (q .writes ∙ after-by (written answer 0 (balanceWords b)) answer (v ∙ e)) ∙ balance-read answer b);
       }
@@ -178,10 +122,6 @@ module _ (kept : List ℕ) (k : ℕ) (answer : List ℕ) (r : ℕ) (answer′ : 
 
 pub step-numbered : (c : StepCall) → Numbered (stepVerdict c)
 step-numbered c = numbered _ (step-decides c) (step-numbers c) refl
-
-result-read : (c : StepCall) (answer : List ℕ) → resultIn c (written answer 0 (repairWords (stepResult c .repair))) ≡ stepResult c
-unfolding written repair
-result-read c answer = refl
 
 module _ (c : StepCall) (answer : List ℕ) where
   -- with room for its values, the call's verdict is Step's: 1 and 2 stand in it once more

@@ -17,7 +17,8 @@ use Rattle.kept_spec.specs.Account.{Standing, told, balanceAfter, Promised, Mov
 use Rattle.kept_spec.proofs.RunLaws.{run-collect}
 use Rattle.kept_spec.proofs.StepLaws.{answer-tells}
 use Rattle.kept_spec.proofs.Demand3.{demand3}
-use Rattle.legzhuro_c.specs.Calls.{openValues, OpenReturns, balanceIn, stepValues, resultIn, toldBy}
+use Rattle.call_values.specs.Values.{toldBy, openValues, stepValues, balanceIn, resultIn}
+use Rattle.legzhuro_c.specs.Calls.{OpenReturns}
 use Rattle.legzhuro_c.specs.CallRuns.{CallEvent, eventOf, stepsOf, CallPromised, CallMoves}
 use Rattle.legzhuro_c.proofs.OwnLaws.{open-own, step-own, step-short, step-short-returns}
 

@@ -8,7 +8,8 @@ use lib.IntN.{ℤ}
 use lib.ListN.{length}
 use Rattle.kept_spec.specs.Step.{StepCall, stepAnswer}
 use Rattle.kept_spec.specs.Account.{Event, Standing, told, Accepts, balanceAfter}
-use Rattle.legzhuro_c.specs.Calls.{stepValues, StepReturns, resultIn, toldBy}
+use Rattle.call_values.specs.Values.{toldBy, stepValues, resultIn}
+use Rattle.legzhuro_c.specs.Calls.{StepReturns}
 
 -- a call of `legzhuro_step` with what it returned and left
 pub record CallEvent : Type 0 where

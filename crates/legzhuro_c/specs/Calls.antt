@@ -1,23 +1,21 @@
 -- The calls from C: what each returns and leaves in the lists lent to it. Assumes nothing.
 use mathlib.Core.Path.{_≡_}
 use mathlib.Core.List.{List, [], _∷_, _++_}
-use Prim.Native.Nat.{ℕ, zero, suc, _+_, _*_, _/_, _%_, _^_, _≤_}
+use Prim.Native.Nat.{ℕ, _+_, _*_, _≤_}
 use lib.IntN.{ℤ, pos}
 use lib.ListN.{length, getD}
 use lib.Ieee.{Float, nan}
 use Rattle.numbers.specs.declared.Checked.{Checked}
 use Rattle.numbers.specs.declared.Checked.the-variants.{Pass, Fail}
-use Rattle.numbers.specs.Lists.{at, atℤ, written}
+use Rattle.numbers.specs.Lists.{atℤ, written}
 use Rattle.numbers.specs.Signed.{over}
-use Rattle.numbers.specs.Checks.{Answered, accepted, refused, after, first, checkCount, checkLong, Rule, rule}
+use Rattle.numbers.specs.Checks.{after, first, checkCount, checkLong, Rule, rule}
 use Rattle.caas_spec.specs.Operation.{SplitCall, items, splitVerdict, splitMasses, splitDeficit}
-use Rattle.qlt_spec.specs.declared.Repair.{Repair}
 use Rattle.qlt_spec.specs.Field.{cells, nodes}
 use Rattle.qlt_spec.specs.Checks.{checkNodes}
 use Rattle.qlt_spec.specs.Operation.{repair, Leaves}
-use Rattle.kept_spec.specs.declared.Balance.{Balance}
 use Rattle.kept_spec.specs.Open.{openVerdict, openBalance}
-use Rattle.kept_spec.specs.Step.{StepCall, newTotal, repairCall, stepVerdict, StepResult}
+use Rattle.kept_spec.specs.Step.{StepCall, newTotal, repairCall, stepVerdict}
 use Rattle.bounds_spec.specs.Bounds.{Bounds, BoundsCall, converted, boundsVerdict}
 use Rattle.doubles_spec.specs.declared.CellDoubles.{CellDoubles}
 use Rattle.doubles_spec.specs.declared.CellUnits.{CellUnits}
@@ -30,6 +28,7 @@ use Rattle.files_spec.specs.ReadField.{fileCells}
 use Rattle.files_spec.specs.AnswerFile.{answerBlocks, answerBytes}
 use Rattle.files_spec.specs.WriteAnswer.{writeCall, writeVerdict}
 use Rattle.repair_file.specs.RepairFile.{fileVerdict, fileRules, FileFits, fileRepair, fileMasses}
+use Rattle.call_values.specs.Values.{returned, openValues, balanceWords, stepValues, repairWords}
 
 -- ---- the call on files: reading, then Reconstruct, then writing, each in its order
 
@@ -60,16 +59,7 @@ pub record ReconstructReturns (file answer : List ℕ) (r : ℕ) (answer′ : Li
   pub returns : r ≡ numberOf (callVerdict file answer)
   pub writes : answer′ ≡ after (callVerdict file answer) (written answer 0 (answerBytes (fileCells file) (fileRepair file) (fileMasses file))) answer
 
--- ---- the other calls return 0, or the refusal's number in the low 32 bits and its place in the high 32
-
-abbrev pub returned : Checked → ℕ
-returned Pass = 0
-returned (Fail number place) = number + place * 2 ^ 32
-
--- what a return value tells, with the values that the lent list holds
-abbrev pub toldBy : {X : Type 0} → ℕ → X → Answered X
-toldBy zero values = accepted values
-toldBy (suc r) values = refused (suc r % 2 ^ 32) (suc r / 2 ^ 32)
+-- ---- the other calls return 0, or the refusal's number and place
 
 -- Split: d goes to the first entry of `deficit`, which counts under 3, after 1
 unfoldable pub splitCallVerdict : SplitCall → List ℤ → Checked
@@ -81,29 +71,17 @@ pub record SplitReturns (c : SplitCall) (deficit : List ℤ) (r : ℕ) (masses d
   pub tells : deficit′ ≡ after (splitCallVerdict c deficit) (written deficit 0 (splitDeficit c ∷ [])) deficit
 
 -- Open, at the scale k: the balance goes to the first two entries of the answer
-abbrev pub openValues : ℕ
-openValues = 2
-
 unfoldable pub openCallVerdict : List ℕ → ℕ → List ℕ → Checked
 openCallVerdict kept k answer = first (checkLong (length answer) openValues ∷ openVerdict kept k ∷ [])
-
-abbrev pub balanceWords : Balance → List ℕ
-balanceWords b = b .total ∷ b .scale ∷ []
 
 pub record OpenReturns (kept : List ℕ) (k : ℕ) (answer : List ℕ) (r : ℕ) (answer′ : List ℕ) : Type 0 where
   pub returns : r ≡ returned (openCallVerdict kept k answer)
   pub writes : answer′ ≡ after (openCallVerdict kept k answer) (written answer 0 (balanceWords (openBalance kept k))) answer
 
 -- Step: what it tells goes to the first entries of the answer, which counts under 3, after 1 and 2
-abbrev pub stepValues : ℕ
-stepValues = 4
-
 unfoldable pub stepCallVerdict : StepCall → List ℕ → Checked
 stepCallVerdict c answer =
     first (checkCount (cells (c .lists)) ∷ checkNodes (cells (c .lists)) (nodes (c .lists)) ∷ checkLong (length answer) stepValues ∷ stepVerdict c ∷ [])
-
-abbrev pub repairWords : Repair → List ℕ
-repairWords r = r .outcome ∷ r .total ∷ r .change ∷ r .shared ∷ []
 
 pub record StepReturns (c : StepCall) (answer : List ℕ) (r : ℕ) (kept : List ℕ) (scratch : List ℤ) (answer′ : List ℕ) : Type 0 where
   pub returns : r ≡ returned (stepCallVerdict c answer)
@@ -141,16 +119,6 @@ abbrev pub SingleReturns : ℕ → ℕ → List Float → ℕ → List Float →
 SingleReturns mass k = ValueReturns mass k (exportSingle mass k)
 
 -- ---- the values in the lent lists, from which the operations' own answers are read off
-
-abbrev pub balanceIn : List ℕ → Balance
-balanceIn answer = record { total = at answer 0; scale = at answer 1 }
-
-abbrev pub repairIn : List ℕ → Repair
-repairIn answer = record { outcome = at answer 0; total = at answer 1; change = at answer 2; shared = at answer 3 }
-
--- of a call of Step: the new balance is the total in the list, at the scale of the balance that the call was given
-abbrev pub resultIn : StepCall → List ℕ → StepResult
-resultIn c answer = record { repair = repairIn answer; balance = record { total = at answer 1; scale = c .balance .scale } }
 
 abbrev pub unitsIn : List ℤ → CellUnits
 unitsIn units =

@@ -14,7 +14,7 @@ use Rattle.files_spec.specs.FieldFile.{fieldBytes, FieldTyped}
 use Rattle.files_spec.specs.WriteField.{FieldWriteCall, fieldWriteVerdict, fieldOf}
 use Rattle.files_spec.specs.AnswerFile.{Repaired}
 use Rattle.files_spec.specs.ReadAnswer.{answerMasses, answerReadVerdict, AnswerReadFits, answerOf}
-use Rattle.legzhuro_c.specs.Calls.{returned, stepValues, repairWords}
+use Rattle.call_values.specs.Values.{returned, stepValues, repairWords}
 
 -- ---- Write a field file: the length is not told, it is that of the cells and nodes
 

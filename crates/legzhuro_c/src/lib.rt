@@ -71,11 +71,11 @@ pub extern "C" fn legzhuro_split(
 {
     let shape = returns::split_shape(targets.len(), deficit.len());
     if let Checked::Fail { number, place } = shape {
-        return returns::refusal(number, place);
+        return call_values::refusal(number, place);
     }
     match split::split(targets, lows, highs, weights, total, masses) {
         SplitAnswer::Done { deficit: d } => returns::put_deficit(d, deficit),
-        SplitAnswer::Refused { number, place } => returns::refusal(number, place),
+        SplitAnswer::Refused { number, place } => call_values::refusal(number, place),
     }
 }
 
@@ -88,8 +88,8 @@ pub extern "C" fn legzhuro_open(kept: &[u32], scale: u32, answer: &mut [u64]) ->
         return 3;
     }
     match kept::open(kept, scale) {
-        Opened::Accepted(balance) => returns::put_balance(balance, answer),
-        Opened::Refused { number, place } => returns::refusal(number, place),
+        Opened::Accepted(balance) => call_values::put_balance(balance, answer),
+        Opened::Refused { number, place } => call_values::refusal(number, place),
     }
 }
 
@@ -120,9 +120,9 @@ pub extern "C" fn legzhuro_step(
         (now (scratch .entry)))
         (now (answer .entry)) r (now (kept .exit)) (now (scratch .exit)) (now (answer .exit)) ⌝ }
 {
-    let shape = returns::step_shape(targets.len(), parents.len(), answer.len());
+    let shape = call_values::step_shape(targets.len(), parents.len(), answer.len());
     if let Checked::Fail { number, place } = shape {
-        return returns::refusal(number, place);
+        return call_values::refusal(number, place);
     }
     let stepped = kept::step(
         Balance {
@@ -142,8 +142,8 @@ pub extern "C" fn legzhuro_step(
         scratch,
     );
     match stepped {
-        Stepped::Accepted { repair, balance: _ } => returns::put_repair(repair, answer),
-        Stepped::Refused { number, place } => returns::refusal(number, place),
+        Stepped::Accepted { repair, balance: _ } => call_values::put_repair(repair, answer),
+        Stepped::Refused { number, place } => call_values::refusal(number, place),
     }
 }
 
@@ -175,7 +175,7 @@ pub extern "C" fn legzhuro_bounds(
     );
     match bounded {
         Bounded::Done => 0,
-        Bounded::Refused { number, place } => returns::refusal(number, place),
+        Bounded::Refused { number, place } => call_values::refusal(number, place),
     }
 }
 
@@ -211,7 +211,7 @@ pub extern "C" fn legzhuro_import(
             number,
             field,
             double: _,
-        } => returns::refusal(number, field),
+        } => call_values::refusal(number, field),
     }
 }
 
@@ -225,7 +225,7 @@ pub extern "C" fn legzhuro_export(mass: u32, scale: u32, value: &mut [f64]) -> u
     }
     match doubles::export(mass, scale) {
         Exported::Double(x) => returns::put_double(x, value),
-        Exported::Refused { number, place } => returns::refusal(number, place),
+        Exported::Refused { number, place } => call_values::refusal(number, place),
     }
 }
 
@@ -239,7 +239,7 @@ pub extern "C" fn legzhuro_export_single(mass: u32, scale: u32, value: &mut [f32
     }
     match doubles::export_single(mass, scale) {
         SingleExported::Single(x) => returns::put_single(x, value),
-        SingleExported::Refused { number, place } => returns::refusal(number, place),
+        SingleExported::Refused { number, place } => call_values::refusal(number, place),
     }
 }
 
@@ -280,7 +280,7 @@ pub extern "C" fn legzhuro_write_field(
     );
     match written {
         FieldWritten::Bytes(_) => 0,
-        FieldWritten::Refused { number, place } => returns::refusal(number, place),
+        FieldWritten::Refused { number, place } => call_values::refusal(number, place),
     }
 }
 
@@ -294,6 +294,6 @@ pub extern "C" fn legzhuro_read_answer(file: &[u8], masses: &mut [u32], answer: 
     let room = returns::answer_room(masses.len(), answer.len());
     match answer_file::read_answer(file, &mut masses[0..room]) {
         AnswerRead::Read { cells, repair } => returns::put_answer(cells, repair, answer),
-        AnswerRead::Refused { number, place } => returns::refusal(number, place),
+        AnswerRead::Refused { number, place } => call_values::refusal(number, place),
     }
 }

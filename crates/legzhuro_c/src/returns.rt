@@ -1,32 +1,20 @@
-// Return values, and values put into the lent lists.
+// Values put into the lent lists, and the checks of those lists, beside those of `call_values`.
 ghost use mathlib.Core.Path.{_≡_};
 ghost use mathlib.Core.List.{[], _∷_};
-ghost use Prim.Native.Nat.{_+_, _*_, _≤_, _^_};
+ghost use Prim.Native.Nat.{_≤_};
 ghost use lib.ListN.{length};
 ghost use Rattle.numbers.specs.Lists.{written};
 ghost use Rattle.numbers.specs.Checks.{first, checkCount, checkLong};
-ghost use Rattle.qlt_spec.specs.Checks.{checkNodes};
-ghost use Rattle.legzhuro_c.specs.Calls.{openValues, balanceWords, stepValues, repairWords, unitsList};
+ghost use Rattle.legzhuro_c.specs.Calls.{unitsList};
 ghost use Rattle.legzhuro_c.specs.FileCalls.{readValues, answerRoom, repairedWords};
 use doubles_spec::CellUnits;
-use field_checks::shape::check_nodes;
-use kept_spec::Balance;
 use numbers::Checked;
 use numbers::checks::check_count;
 use numbers::checks::check_long;
 use numbers::checks::then;
 use qlt_spec::Repair;
 
-// The number in the low 32 bits, the place in the high 32.
-pub fn refusal(number: u32, place: u32) -> u64
-    ensures { λ r. ⌜ r ≡ number + place * 2 ^ 32 ⌝ }
-{
-    number as u64 + place as u64 * 4294967296
-}
-
-// The values that Step tells, and those that Read an answer does; `stepValues` and `readValues` in specs/.
-const STEP_VALUES: usize = 4;
-
+// The values that Read an answer tells; `readValues` in specs/.
 const READ_VALUES: usize = 5;
 
 // Split's 1, and under 3 the list for d.
@@ -34,16 +22,6 @@ pub fn split_shape(items: usize, deficit: usize) -> Checked
     ensures { λ r. ⌜ r ≡ first (checkCount items ∷ checkLong deficit 1 ∷ []) ⌝ }
 {
     then(check_count(items), check_long(deficit, 1))
-}
-
-// Step's 1 and 2, and under 3 the list for its values.
-pub fn step_shape(cells: usize, nodes: usize, answer: usize) -> Checked
-    ensures { λ r. ⌜ r ≡ first (checkCount cells ∷ checkNodes cells nodes ∷ checkLong answer stepValues ∷ []) ⌝ }
-{
-    then(
-        check_count(cells),
-        then(check_nodes(cells, nodes), check_long(answer, STEP_VALUES)),
-    )
 }
 
 // The room for masses that a reading finds: none if the list for its values is too short.
@@ -59,26 +37,6 @@ pub fn put_deficit(d: i64, deficit: &mut [i64]) -> u64
     ensures { λ r. ⌜ (r ≡ 0) × (now (deficit .exit) ≡ written (now (deficit .entry)) 0 (d ∷ [])) ⌝ }
 {
     deficit[0] = d;
-    0
-}
-
-pub fn put_balance(balance: Balance, answer: &mut [u64]) -> u64
-    requires { ⌜ openValues ≤ length (now answer) ⌝ }
-    ensures { λ r. ⌜ (r ≡ 0) × (now (answer .exit) ≡ written (now (answer .entry)) 0 (balanceWords balance)) ⌝ }
-{
-    answer[0] = balance.total as u64;
-    answer[1] = balance.scale as u64;
-    0
-}
-
-pub fn put_repair(repair: Repair, answer: &mut [u64]) -> u64
-    requires { ⌜ stepValues ≤ length (now answer) ⌝ }
-    ensures { λ r. ⌜ (r ≡ 0) × (now (answer .exit) ≡ written (now (answer .entry)) 0 (repairWords repair)) ⌝ }
-{
-    answer[0] = repair.outcome as u64;
-    answer[1] = repair.total as u64;
-    answer[2] = repair.change;
-    answer[3] = repair.shared;
     0
 }
 

@@ -1,5 +1,5 @@
--- Chains of checks and their rules as a whole: a chain that is another with checks of its own put in, and the numbers that rules refuse with,
--- which are computed. Assumes nothing.
+-- Chains of checks and their rules as a whole: a chain by its checks, a chain that is another with checks of its own put in, and the numbers
+-- that rules refuse with, which are computed. Assumes nothing.
 use mathlib.Core.Path.{_≡_, refl, sym, _∙_, ap, subst}
 use mathlib.Core.Logic.{_⊎_, inl, inr, ⊎-elim, _↔_}
 use mathlib.Core.Bool.{Bool, true, false, _&&_, _||_, or-true}
@@ -9,11 +9,40 @@ use lib.Dec.{eqb}
 use borrow.Author.Tests.{eqb-true, eq-eqb}
 use Rattle.numbers.specs.declared.Checked.{Checked}
 use Rattle.numbers.specs.declared.Checked.the-variants.{Pass, Fail}
+use Rattle.numbers.specs.Lists.{All}
 use Rattle.numbers.specs.Checks.{both, first, Rule, Holds, Broken, DecidesAll, rulesFrom, numbersOf, OneOf, RefuseWith, Extends}
 use Rattle.numbers.proofs.TestLaws.{clash, and-first, and-second}
 use Rattle.numbers.proofs.CheckLaws.{on, both-first, both-second, no-pass, broken-append}
 
+-- ---- a chain by its checks
+
+-- cases on a verdict
+pub data Verdict (v : Checked) : Type 0 where
+  passed : v ≡ Pass → Verdict v
+  failed : (number place : ℕ) → v ≡ Fail number place → Verdict v
+
+pub verdict : (v : Checked) → Verdict v
+verdict Pass = passed refl
+verdict (Fail number place) = failed number place refl
+
+-- a chain passes exactly if each of its checks does
+abbrev pub Passes : Checked → Type 0
+Passes v = v ≡ Pass
+
+pub pass-all : (vs : List Checked) → first vs ≡ Pass → All Passes vs
+pass-all [] e = All.none
+pass-all (v ∷ vs) e = All.more (both-first v (first vs) e) (pass-all vs (both-second v (first vs) e))
+
+pub all-pass : (vs : List Checked) → All Passes vs → first vs ≡ Pass
+all-pass [] All.none = refl
+all-pass (v ∷ vs) (All.more h hs) = sym (on h (sym (all-pass vs hs)))
+
 -- ---- a chain that is another with checks of its own put in
+
+-- several of its own one after another
+pub extends-own : {Own : ℕ → Type 0} {vs ws : List Checked} (own : List Checked) → All (λ v. (number place : ℕ) → v ≡ Fail number place → Own number) own → Extends Own vs ws → Extends Own (own ++ vs) ws
+extends-own [] All.none z = z
+extends-own (v ∷ own) (All.more h hs) z = Extends.extra h (extends-own own hs z)
 
 -- where it passes, the other passes
 pub extends-pass : {Own : ℕ → Type 0} {vs ws : List Checked} → Extends Own vs ws → first vs ≡ Pass → first ws ≡ Pass

@@ -1,4 +1,4 @@
--- `kept::verdict::open_verdict` meets its contract: 1, 9, then 13.
+-- `kept::verdict::open_verdict` meets its contract: 1, 9, the check put in, then 13.
 use mathlib.Core.Path.{_≡_, sym, _∙_, ap, ap₂}
 use native.Mathlib.Omega.{arith}
 use lib.IntN.{ℤ, pos}
@@ -10,9 +10,8 @@ use Rattle.numbers.specs.Checks.{both, checkCount, checkScale}
 use Rattle.numbers.specs.declared.Checked.{Checked}
 use Rattle.numbers.specs.declared.Checked.the-variants.{Pass}
 use Rattle.numbers.specs.Lists.{sum}
-use Rattle.numbers.proofs.CheckLaws.{last, both-first, count-decides}
-use Rattle.kept_spec.specs.Open.{checkTotal, openVerdict}
-use Rattle.kept.proofs.VerdictLaws.{on-both, stop-both}
+use Rattle.numbers.proofs.CheckLaws.{on, stop, last, both-assoc, both-first, count-decides}
+use Rattle.kept_spec.specs.Open.{checkTotal, openVerdictWith}
 use borrow.Author.Needs.{needs}
 use Rattle.kept.proofs.verdict.open_verdict.Statement.{statement}
 use Rattle.kept.proofs.verdict.open_verdict.Tie as tie
@@ -26,11 +25,19 @@ scale c = checkScale (c .args .scale)
 abbrev total : tie.Start → Checked
 total c = checkTotal (pos (sum (c .args .kept .now)))
 
-inputs-are : (c : tie.After-then) → c .then .result ≡ both (count (c .before .before .before .before)) (scale (c .before .before .before .before))
-inputs-are c = c .then .ensures ∙ ap₂ both (c .before .before .check-count .ensures) (c .before .check-scale .ensures)
+-- 1, 9 and the check put in
+abbrev before-13 : tie.Start → Checked
+before-13 c = both (both (count c) (scale c)) (c .args .own)
 
-passed : (c : tie.After-enum-told) → both (count (c .before .before .before .before .before .before)) (scale (c .before .before .before .before .before .before)) ≡ Pass
+inputs-are : (c : tie.After-then2) → c .then2 .result ≡ before-13 (c .before .before .before .before .before)
+inputs-are c = c .then2 .ensures ∙ ap (λ v. both v (c .before .before .before .before .before .args .own)) (c .before .then .ensures ∙ ap₂ both (c .before .before .before .check-count .ensures) (c .before .before .check-scale .ensures))
+
+passed : (c : tie.After-enum-told) → before-13 (c .before .before .before .before .before .before .before) ≡ Pass
 passed c = sym (inputs-are (c .before .before)) ∙ c .enum-told .given .1
+
+-- the chain with 13 behind these
+chain : (c : tie.Start) → both (before-13 c) (both (total c) Pass) ≡ both (count c) (both (scale c) (both (c .args .own) (both (total c) Pass)))
+chain c = both-assoc (both (count c) (scale c)) (c .args .own) _ ∙ both-assoc (count c) (scale c) _
 
 check-count-requires : tie.Need-check-count-requires
 check-count-requires c κs = search needs
@@ -41,20 +48,25 @@ check-scale-requires c κs = search needs
 then-requires : tie.Need-then-requires
 then-requires c κs = search needs
 
+then-requires-2 : tie.Need-then-requires-2
+then-requires-2 c κs = search needs
+
 enum-known-inputs : tie.Need-enum-known-inputs
 enum-known-inputs c = search needs
 
 returns : tie.Need-returns
-unfolding openVerdict
+unfolding openVerdictWith
 returns c =
-    let s = c .before .before .before .before .before .before .before in
-    stop-both (count s) (scale s) (both (total s) Pass) (sym (inputs-are (c .before .before .before)) ∙ c .before .inputs .given .1)
+    let s = c .before .before .before .before .before .before .before .before in
+    stop (both (total s) Pass) (sym (inputs-are (c .before .before .before)) ∙ c .before .inputs .given .1) ∙ chain s
 
 enum-told : tie.Need-enum-told
 enum-told c = search needs
 
 sum-of-requires : tie.Need-sum-of-requires
-sum-of-requires c κs = let n = count-decides _ .passes .0 (both-first (count (c .before .before .before .before .before .before)) (scale (c .before .before .before .before .before .before)) (passed c)) in omega arith
+sum-of-requires c κs =
+    let s = c .before .before .before .before .before .before .before in
+    let n = count-decides _ .passes .0 (both-first (count s) (scale s) (both-first (both (count s) (scale s)) (s .args .own) (passed c))) in omega arith
 
 signed-requires : tie.Need-signed-requires
 signed-requires c κs = search needs
@@ -63,13 +75,14 @@ check-total-requires : tie.Need-check-total-requires
 check-total-requires c κs = search needs
 
 returns-2 : tie.Need-returns-2
-unfolding openVerdict
+unfolding openVerdictWith
 returns-2 c =
-    let s = c .before .before .before .before .before .before .before .before .before in
-    on-both (count s) (scale s) (both (total s) Pass) (passed (c .before .before .before))
+    let s = c .before .before .before .before .before .before .before .before .before .before in
+    on (passed (c .before .before .before))
     (last (total s)
     (c .check-total .ensures
     ∙ ap checkTotal (ap (λ (z : ℤ). toZ w64 (ofZ w64 z)) (c .before .signed .ensures) ∙ toZ-pos w64 (c .before .before .sum-of .result) (omega arith) ∙ ap pos (c .before .before .sum-of .ensures .0))))
+    ∙ chain s
 
 pub open-verdict-spec : {M : Type 1} → statement M
 open-verdict-spec =
@@ -78,6 +91,7 @@ open-verdict-spec =
     check-count-requires
     check-scale-requires
     then-requires
+    then-requires-2
     enum-known-inputs
     returns
     enum-told

@@ -1,5 +1,7 @@
--- `kept::verdict::step_verdict` meets its contract: each check in its order; those after 17 count on the lengths, and 8 on 13.
+-- `kept::verdict::step_verdict` meets its contract: each check in its order, the one put in before 8; those after 17 count on the lengths, and
+-- 8 on 13.
 use mathlib.Core.Path.{_≡_, sym, _∙_, ap, ap₂}
+use mathlib.Core.List.{[], _∷_}
 use native.Mathlib.Omega.{arith}
 use lib.ListN.{length}
 use mir.Syntax.{w64}
@@ -15,9 +17,9 @@ use Rattle.qlt_spec.specs.Operation.{ShapeFits}
 use Rattle.qlt_spec.proofs.CheckLaws.{shape-fits}
 use Rattle.field_checks.proofs.CodeLaws.{sized}
 use Rattle.kept_spec.specs.Open.{checkTotal}
-use Rattle.kept_spec.specs.Step.{StepCall, stepCall, next, checkKept, stepVerdict}
+use Rattle.kept_spec.specs.Step.{StepCall, stepCall, next, checkKept, stepVerdictWith}
 use Rattle.kept_spec.proofs.OpenLaws.{total-decides}
-use Rattle.kept_spec.proofs.StepLaws.{same, totals}
+use Rattle.kept_spec.proofs.StepLaws.{same, totalsWith}
 use Rattle.kept.proofs.VerdictLaws.{on-both, stop-both}
 use Rattle.kept.proofs.TotalLaws.{next-read}
 use borrow.Author.Needs.{needs}
@@ -36,6 +38,10 @@ Shaped c = shapeOf (length (c .kept)) (c .lists) (length (c .scratch)) ≡ Pass
 -- 4 to 7
 abbrev values : StepCall → Checked
 values c = checkValues (c .lists)
+
+-- 12, 13, the check put in and 8
+abbrev rest : StepCall → Checked → Checked
+rest c own = totalsWith c (own ∷ [])
 
 -- what each check has shown
 shaped : (c : tie.After-enum-told) → Shaped (given (c .before .before .before .before .before .before .before .before .before .before))
@@ -70,7 +76,7 @@ enum-known-shape : tie.Need-enum-known-shape
 enum-known-shape c = search needs
 
 returns : tie.Need-returns
-unfolding stepVerdict
+unfolding stepVerdictWith
 returns c = stop _ (sym (c .before .before .before .check-shape .ensures) ∙ c .before .shape .given .1)
 
 enum-told : tie.Need-enum-told
@@ -89,10 +95,12 @@ enum-known-inputs : tie.Need-enum-known-inputs
 enum-known-inputs c = search needs
 
 returns-2 : tie.Need-returns-2
-unfolding stepVerdict
+unfolding stepVerdictWith
 returns-2 c =
-    let g = given (c .before .before .before .before .before .before .before .before .before .before .before .before .before .before .before .before) in
-    on (shaped (c .before .before .before .before .before .before)) (stop-both (same g) (values g) (totals g) (sym (inputs-are (c .before .before .before)) ∙ c .before .inputs .given .1))
+    let s = c .before .before .before .before .before .before .before .before .before .before .before .before .before .before .before .before in
+    let g = given s in
+    let o = s .args .own in
+    on (shaped (c .before .before .before .before .before .before)) (stop-both (same g) (values g) (rest g o) (sym (inputs-are (c .before .before .before)) ∙ c .before .inputs .given .1))
 
 enum-told-2 : tie.Need-enum-told-2
 enum-told-2 c = search needs
@@ -104,11 +112,13 @@ enum-known-adds-up : tie.Need-enum-known-adds-up
 enum-known-adds-up c = search needs
 
 returns-3 : tie.Need-returns-3
-unfolding stepVerdict
+unfolding stepVerdictWith
 returns-3 c =
-    let g = given (c .before .before .before .before .before .before .before .before .before .before .before .before .before .before .before .before .before .before .before) in
+    let s = c .before .before .before .before .before .before .before .before .before .before .before .before .before .before .before .before .before .before .before in
+    let g = given s in
+    let o = s .args .own in
     on (shaped (c .before .before .before .before .before .before .before .before .before))
-    (on-both (same g) (values g) (totals g) (valued (c .before .before .before .before)) (stop _ (sym (c .before .before .before .check-kept .ensures) ∙ c .before .adds-up .given .1)))
+    (on-both (same g) (values g) (rest g o) (valued (c .before .before .before .before)) (stop _ (sym (c .before .before .before .check-kept .ensures) ∙ c .before .adds-up .given .1)))
 
 enum-told-3 : tie.Need-enum-told-3
 enum-told-3 c = search needs
@@ -123,11 +133,13 @@ enum-known-small : tie.Need-enum-known-small
 enum-known-small c = search needs
 
 returns-4 : tie.Need-returns-4
-unfolding stepVerdict
+unfolding stepVerdictWith
 returns-4 c =
-    let g = given (c .before .before .before .before .before .before .before .before .before .before .before .before .before .before .before .before .before .before .before .before .before .before .before) in
+    let s = c .before .before .before .before .before .before .before .before .before .before .before .before .before .before .before .before .before .before .before .before .before .before .before in
+    let g = given s in
+    let o = s .args .own in
     on (shaped (c .before .before .before .before .before .before .before .before .before .before .before .before .before))
-    (on-both (same g) (values g) (totals g) (valued (c .before .before .before .before .before .before .before .before))
+    (on-both (same g) (values g) (rest g o) (valued (c .before .before .before .before .before .before .before .before))
     (on (adds (c .before .before .before .before .before)) (stop _ (sym (small-is (c .before .before .before)) ∙ c .before .small .given .1))))
 
 enum-told-4 : tie.Need-enum-told-4
@@ -141,17 +153,24 @@ check-reach-requires c κs =
     let f = lengths (c .before .before .before .before .before .before .before .before .before .before .before .before .before) in
     (omega (arith, f .few, f .lengths .safeLows), omega (arith, f .few, f .lengths .safeHighs))
 
+then-requires-2 : tie.Need-then-requires-2
+then-requires-2 c κs = search needs
+
 returns-5 : tie.Need-returns-5
-unfolding stepVerdict
+unfolding stepVerdictWith
 returns-5 c =
-    let g = given (c .before .before .before .before .before .before .before .before .before .before .before .before .before .before .before .before .before .before .before .before .before .before .before .before) in
-    on (shaped (c .before .before .before .before .before .before .before .before .before .before .before .before .before .before))
-    (on-both (same g) (values g) (totals g) (valued (c .before .before .before .before .before .before .before .before .before))
-    (on (adds (c .before .before .before .before .before .before))
-    (on (small (c .before .before))
+    let s = c .before .before .before .before .before .before .before .before .before .before .before .before .before .before .before .before .before .before .before .before .before .before .before .before .before in
+    let g = given s in
+    let o = s .args .own in
+    on (shaped (c .before .before .before .before .before .before .before .before .before .before .before .before .before .before .before))
+    (on-both (same g) (values g) (rest g o) (valued (c .before .before .before .before .before .before .before .before .before .before))
+    (on (adds (c .before .before .before .before .before .before .before))
+    (on (small (c .before .before .before))
+    (c .then2 .ensures
+    ∙ ap (both o)
     (last _
-    (c .check-reach .ensures
-    ∙ ap (checkReach (g .lists .safeLows) (g .lists .safeHighs)) (c .before .whole .ensures ∙ ap over (next-is (c .before .before .before .before .before))))))))
+    (c .before .check-reach .ensures
+    ∙ ap (checkReach (g .lists .safeLows) (g .lists .safeHighs)) (c .before .before .whole .ensures ∙ ap over (next-is (c .before .before .before .before .before .before)))))))))
 
 pub step-verdict-spec : {M : Type 1} → statement M
 step-verdict-spec = tie.close (tie.spec
@@ -176,4 +195,5 @@ step-verdict-spec = tie.close (tie.spec
     enum-told-4
     whole-requires
     check-reach-requires
+    then-requires-2
     returns-5)

@@ -1,5 +1,5 @@
 -- `kept::work::step_by` meets its contract: a verdict that passes fits, and one that fails leaves everything.
-use mathlib.Core.Path.{_≡_, sym, _∙_, subst}
+use mathlib.Core.Path.{_≡_, sym, subst}
 use lib.IntN.{ℤ}
 use mir.Syntax.{w32}
 use mir.Val.{toZ, ofZ}
@@ -9,7 +9,6 @@ use Rattle.numbers.specs.Checks.{accepted}
 use Rattle.qlt_spec.specs.Field.{lists}
 use Rattle.qlt_spec.specs.Operation.{RepairContract}
 use Rattle.kept_spec.specs.Step.{StepCall, stepCall, repairCall, StepFits, stepResult, stepTells}
-use Rattle.kept_spec.proofs.StepLaws.{step-accepts}
 use Rattle.qlt_spec.proofs.OperationLaws.{contract-refused}
 use Rattle.kept.proofs.TotalLaws.{fits-scale, step-done}
 use borrow.Author.Needs.{needs}
@@ -32,14 +31,14 @@ enum-known-verdict c = search needs
 returns : tie.Need-returns
 unfolding stepTells
 returns c = let s = c .before .before .before .before .before .before .before .before .before .before in
-    contract-refused (repairCall (given s)) (stepResult (given s)) (sym (s .pre) ∙ c .before .verdict .given .1)
+    contract-refused (repairCall (given s)) (stepResult (given s)) (c .before .verdict .given .1)
 
 enum-told : tie.Need-enum-told
 enum-told c = search needs
 
 step-on-requires : tie.Need-step-on-requires
 step-on-requires c κs = let s = c .before .before .before .before .before .before .before .before .before .before .before in
-    fits-scale (givenAt s (toZ w32 (ofZ w32 (s .args .source)))) (subst (λ (z : ℤ). StepFits (givenAt s z)) (sym (source-is s)) (step-accepts (given s) .0 (sym (s .pre) ∙ c .before .before .enum-told .given .1)))
+    fits-scale (givenAt s (toZ w32 (ofZ w32 (s .args .source)))) (subst (λ (z : ℤ). StepFits (givenAt s z)) (sym (source-is s)) (s .pre (c .before .before .enum-told .given .1)))
 
 same-length : tie.Need-same-length
 same-length c = search needs
@@ -49,7 +48,7 @@ same-length-2 c = search needs
 
 returns-2 : tie.Need-returns-2
 returns-2 c = let s = c .before .before .before .before .before .before .before .before .before .before .before .before .before .before .before in
-    step-done (given s) (sym (s .pre) ∙ c .before .before .before .before .before .before .enum-told .given .1)
+    step-done (given s) (c .before .before .before .before .before .before .enum-told .given .1)
     (subst (λ (z : ℤ). RepairContract Pass (repairCall (givenAt s z)) (accepted (c .before .before .before .step-on .result)) (c .before .before .before .step-on .last .1 .0) (c .before .before .before .step-on .last .1 .1 .1 .1 .1 .1 .1 .1 .1 .1 .0)) (source-is s) (c .before .before .before .step-on .ensures))
 
 pub step-by-spec : {M : Type 1} → statement M

@@ -1,9 +1,9 @@
--- `kept_test::fields::fill` is safe and ends: the index stays below 8.
+-- `test_support::fields::fill` is safe and ends: the index stays below 8.
 use Prim.Native.Nat.{_-_}
 use native.Mathlib.Omega.{arith}
 use borrow.Author.Needs.{needs}
-use Rattle.kept_test.proofs.fields.fill.Statement.{statement}
-use Rattle.kept_test.proofs.fields.fill.Tie as tie
+use Rattle.test_support.proofs.fields.fill.Statement.{statement}
+use Rattle.test_support.proofs.fields.fill.Tie as tie
 
 abbrev Inv-loop : tie.InvT-loop
 Inv-loop state kept targets₀ lows₀ highs₀ safe-lows₀ safe-highs₀ weights₀ next₀ i₀ targets lows highs safe-lows safe-highs weights next i = Unit

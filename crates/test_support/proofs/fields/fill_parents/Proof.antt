@@ -1,9 +1,9 @@
--- `kept_test::fields::fill_parents` is safe and ends: the node stays below 15.
+-- `test_support::fields::fill_parents` is safe and ends: the node stays below 15.
 use Prim.Native.Nat.{_-_}
 use native.Mathlib.Omega.{arith}
 use borrow.Author.Needs.{needs}
-use Rattle.kept_test.proofs.fields.fill_parents.Statement.{statement}
-use Rattle.kept_test.proofs.fields.fill_parents.Tie as tie
+use Rattle.test_support.proofs.fields.fill_parents.Statement.{statement}
+use Rattle.test_support.proofs.fields.fill_parents.Tie as tie
 
 abbrev Inv-loop : tie.InvT-loop
 Inv-loop kind fault parents₀ v₀ parents v = Unit

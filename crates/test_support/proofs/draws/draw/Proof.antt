@@ -1,8 +1,8 @@
--- `kept_test::draws::draw` meets its contract: a remainder is below its divisor.
+-- `test_support::draws::draw` meets its contract: a remainder is below its divisor.
 use native.Mathlib.Nat.{mod-lt}
 use borrow.Author.Needs.{needs}
-use Rattle.kept_test.proofs.draws.draw.Statement.{statement}
-use Rattle.kept_test.proofs.draws.draw.Tie as tie
+use Rattle.test_support.proofs.draws.draw.Statement.{statement}
+use Rattle.test_support.proofs.draws.draw.Tie as tie
 
 next-requires : tie.Need-next-requires
 next-requires c κs = search needs

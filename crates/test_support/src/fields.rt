@@ -1,4 +1,4 @@
-// The fields of the calls: cells drawn around the kept masses, and three trees over 8 cells.
+// Fields for steps: cells drawn around kept masses, and three trees over 8 cells.
 ghost use Prim.Native.Nat.{_≤_};
 use crate::draws::draw;
 use crate::draws::less;

@@ -1,12 +1,12 @@
--- `legzhuro_c::returns::put_balance` meets its contract: two stores in a row are one written part.
+-- `call_values::put_balance` meets its contract: two stores in a row are one written part.
 use mathlib.Core.Path.{refl}
 use native.Mathlib.Omega.{arith}
 use lib.ListN.{length-set}
 use Rattle.numbers.proofs.PartLaws.{sets-written}
-use Rattle.legzhuro_c.specs.Calls.{balanceWords}
+use Rattle.call_values.specs.Values.{balanceWords}
 use borrow.Author.Needs.{needs}
-use Rattle.legzhuro_c.proofs.returns.put_balance.Statement.{statement}
-use Rattle.legzhuro_c.proofs.returns.put_balance.Tie as tie
+use Rattle.call_values.proofs.put_balance.Statement.{statement}
+use Rattle.call_values.proofs.put_balance.Tie as tie
 
 cast-answer : tie.Need-cast-answer
 cast-answer c = search needs

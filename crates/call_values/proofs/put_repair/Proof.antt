@@ -1,12 +1,12 @@
--- `legzhuro_c::returns::put_repair` meets its contract: four stores in a row are one written part.
+-- `call_values::put_repair` meets its contract: four stores in a row are one written part.
 use mathlib.Core.Path.{refl}
 use native.Mathlib.Omega.{arith}
 use lib.ListN.{length-set}
 use Rattle.numbers.proofs.PartLaws.{sets-written}
-use Rattle.legzhuro_c.specs.Calls.{repairWords}
+use Rattle.call_values.specs.Values.{repairWords}
 use borrow.Author.Needs.{needs}
-use Rattle.legzhuro_c.proofs.returns.put_repair.Statement.{statement}
-use Rattle.legzhuro_c.proofs.returns.put_repair.Tie as tie
+use Rattle.call_values.proofs.put_repair.Statement.{statement}
+use Rattle.call_values.proofs.put_repair.Tie as tie
 
 cast-answer : tie.Need-cast-answer
 cast-answer c = search needs

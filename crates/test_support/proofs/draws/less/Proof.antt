@@ -1,12 +1,12 @@
--- `kept_test::draws::less` is safe: both numbers are below 2 ^ 31, so their difference fits 32 bits.
+-- `test_support::draws::less` is safe: both numbers are below 2 ^ 31, so their difference fits 32 bits.
 use native.Mathlib.Omega.{arith}
 use lib.IntN.{pos}
 use mir.Syntax.{w32}
 use mir.ValLaws.{toZ-pos}
 use borrow.Author.Needs.{needs}
 use Rattle.numbers.proofs.SignedLaws.{minus-parts, parts-fits32}
-use Rattle.kept_test.proofs.draws.less.Statement.{statement}
-use Rattle.kept_test.proofs.draws.less.Tie as tie
+use Rattle.test_support.proofs.draws.less.Statement.{statement}
+use Rattle.test_support.proofs.draws.less.Tie as tie
 
 cast-result : tie.Need-cast-result
 cast-result c = search needs
