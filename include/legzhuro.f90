@@ -19,12 +19,15 @@ module legzhuro
     integer(c_int32_t), parameter, public :: legzhuro_max_scale = 30
     integer, parameter, public :: legzhuro_scratch = 4 ! scratch numbers for each node
     integer(c_int32_t), parameter, public :: legzhuro_ratio = 1048576 ! the parts of a mixing ratio; also the largest ratio
+    integer, parameter, public :: legzhuro_members = 8 ! of a family
+    integer, parameter, public :: legzhuro_family = 19 ! entries of the list that a family stands in
     integer, parameter, public :: legzhuro_max_field_file = 18432 ! bytes
     integer, parameter, public :: legzhuro_max_answer_file = 3072 ! bytes
 
     public :: legzhuro_reconstruct, legzhuro_write_field, legzhuro_read_answer
     public :: legzhuro_split, legzhuro_open, legzhuro_step, legzhuro_import, legzhuro_export
     public :: legzhuro_export_single, legzhuro_bounds
+    public :: legzhuro_family_start, legzhuro_family_open, legzhuro_family_step
     public :: legzhuro_number, legzhuro_place, legzhuro_field_file, legzhuro_answer_file
 
     interface
@@ -100,6 +103,45 @@ module legzhuro
             integer(c_int64_t), intent(inout) :: scratch(scratch_len), answer(answer_len)
             integer(c_int64_t) :: returned
         end function legzhuro_step
+
+        ! Starts a family: family(1) is the cap, family(2) the scale, family(3) the number of cells; of member i, counted from 0,
+        ! family(4 + 2*i) is 1 if it is open, and family(5 + 2*i) is its total.
+        function legzhuro_family_start(cap, scale, cells, family, family_len) result(returned) bind(c, name='legzhuro_family_start')
+            import :: c_int32_t, c_int64_t, c_size_t
+            integer(c_int64_t), value :: cap
+            integer(c_int32_t), value :: scale, cells
+            integer(c_size_t), value :: family_len
+            integer(c_int64_t), intent(inout) :: family(family_len)
+            integer(c_int64_t) :: returned
+        end function legzhuro_family_start
+
+        ! Opens a member of a family: answer(1) is the total, answer(2) the scale.
+        function legzhuro_family_open(family, family_len, member, kept, kept_len, scale, answer, answer_len) result(returned) &
+            bind(c, name='legzhuro_family_open')
+            import :: c_int32_t, c_int64_t, c_size_t
+            integer(c_size_t), value :: family_len, kept_len, answer_len
+            integer(c_int32_t), value :: member, scale
+            integer(c_int32_t), intent(in) :: kept(kept_len)
+            integer(c_int64_t), intent(inout) :: family(family_len), answer(answer_len)
+            integer(c_int64_t) :: returned
+        end function legzhuro_family_open
+
+        ! Steps a member of a family: answer(1) is the outcome, answer(2) the new total, answer(3) the change, answer(4) the sum
+        ! shared out.
+        function legzhuro_family_step(family, family_len, member, kept, kept_len, source, scale, targets, targets_len, lows, &
+                                      lows_len, highs, highs_len, safe_lows, safe_lows_len, safe_highs, safe_highs_len, weights, &
+                                      weights_len, parents, parents_len, scratch, scratch_len, answer, answer_len) &
+            result(returned) bind(c, name='legzhuro_family_step')
+            import :: c_int32_t, c_int64_t, c_size_t
+            integer(c_size_t), value :: family_len, kept_len, targets_len, lows_len, highs_len, safe_lows_len, safe_highs_len
+            integer(c_size_t), value :: weights_len, parents_len, scratch_len, answer_len
+            integer(c_int32_t), value :: member, source, scale
+            integer(c_int32_t), intent(inout) :: kept(kept_len)
+            integer(c_int32_t), intent(in) :: targets(targets_len), lows(lows_len), highs(highs_len), safe_lows(safe_lows_len)
+            integer(c_int32_t), intent(in) :: safe_highs(safe_highs_len), weights(weights_len), parents(parents_len)
+            integer(c_int64_t), intent(inout) :: family(family_len), scratch(scratch_len), answer(answer_len)
+            integer(c_int64_t) :: returned
+        end function legzhuro_family_step
 
         ! Makes the bounds of a field from air masses and mixing ratios in parts of 1048576.
         function legzhuro_bounds(air, air_len, low_ratios, low_ratios_len, high_ratios, high_ratios_len, lows, lows_len, highs, &

@@ -12,7 +12,7 @@
  * place in the high 32: LEGZHURO_NUMBER and LEGZHURO_PLACE take them apart. A refusal is that of the first check that fails; each call
  * lists its own in the order of the checks. The place is 0 unless the table names one.
  *
- *    1  no items or cells, or more than 512
+ *    1  no items or cells, or more than 512; in a call on a family also another number of cells than the family's
  *    2  fewer nodes than cells, or more than 1024
  *    3  a list of another length, scratch under 4 numbers for each node, or a list or buffer for the answer that is too short; in
  *       legzhuro_write_field a list or buffer that is too short for the cells and nodes
@@ -29,8 +29,10 @@
  *   14  a file of length 0, no multiple of 512, or not that of its cells and nodes; a field file over 18432 bytes or an answer file over 3072
  *   15  a block of the file with a wrong number or check word (place: the block, from 1)
  *   16  a file whose first payload word is not 512, or a spare word that is not 0; an answer file with an outcome above 2 (place: the block)
- *   17  a step whose scale is above 30 or not that of the balance
+ *   17  a step whose scale is above 30 or not that of the balance; an opening of a member at another scale than the family's
  *   18  a ratio above 1048576 (place: the first cell)
+ *   19  a member's number above 7, an opening of a member that is open, a step of one that is not
+ *   20  an opening, or a step with a source above 0, after which the totals of a family would pass its cap in sum
  */
 #ifndef LEGZHURO_H
 #define LEGZHURO_H
@@ -52,6 +54,8 @@ extern "C" {
 #define LEGZHURO_MAX_SCALE 30
 #define LEGZHURO_SCRATCH 4            /* scratch numbers for each node */
 #define LEGZHURO_RATIO 1048576        /* the parts of a mixing ratio; also the largest ratio */
+#define LEGZHURO_MEMBERS 8            /* of a family */
+#define LEGZHURO_FAMILY 19            /* entries of the list that a family stands in */
 #define LEGZHURO_MAX_FIELD_FILE 18432 /* bytes */
 #define LEGZHURO_MAX_ANSWER_FILE 3072 /* bytes */
 
@@ -124,6 +128,34 @@ uint64_t legzhuro_step(uint32_t total, uint32_t total_scale, uint32_t *kept, siz
                        size_t highs_len, const uint32_t *safe_lows, size_t safe_lows_len, const uint32_t *safe_highs,
                        size_t safe_highs_len, const uint32_t *weights, size_t weights_len, const uint32_t *parents, size_t parents_len,
                        int64_t *scratch, size_t scratch_len, uint64_t *answer, size_t answer_len);
+
+/* Starts a family: up to 8 kept fields, its members, over the same cells, of 1 to 512, at one scale of 0 to 30, with a cap on the sum of their
+ * totals. The family stands in the first 19 entries of `family`: family[0] is the cap, family[1] the scale, family[2] the number of cells, and
+ * of member i, 0 to 7, family[3 + 2 * i] is 1 if it is open, else 0, and family[4 + 2 * i] is its total. Nobody is open at the start; later
+ * entries are left alone. Each call is given the list as the last one left it, and each member has a kept list of its own, lent to its calls
+ * alone. Then each member keeps the whole account of its own run, as a kept field by itself does; the totals never pass the cap in sum; and what a
+ * member is told and holds depends on its own calls, on scale and cells and, at each call, on the cap less the others' totals, on nothing
+ * else. Any list may be handed over: an entry that is too wide is read modulo its width, 2^32 for scale, cells and totals and 2 for what is 0
+ * or 1, and the total of a member that is not open counts in the sum as it stands.
+ * Refusals: 3 (`family` has fewer than 19 entries), 1, 9. */
+uint64_t legzhuro_family_start(uint64_t cap, uint32_t scale, uint32_t cells, uint64_t *family, size_t family_len);
+
+/* Opens a member of a family with its kept masses, as legzhuro_open does: answer[0] is the total and answer[1] the scale; later entries of
+ * `answer` are left alone. The number of masses must be the family's number of cells, `scale` its scale.
+ * Refusals: 3 (`family` has fewer than 19 entries or `answer` fewer than two), 19, 1, 9, 17, 13, 20. */
+uint64_t legzhuro_family_open(uint64_t *family, size_t family_len, uint32_t member, const uint32_t *kept, size_t kept_len, uint32_t scale,
+                              uint64_t *answer, size_t answer_len);
+
+/* Steps a member of a family, as legzhuro_step does, from the total that the family holds of it. After an accepted step the family holds the
+ * new total; the other lists and `answer` are as in legzhuro_step. A source of 0 or below is not refused for the cap.
+ * Refusals: 3 (`family` has fewer than 19 entries), 19, 1, 2, 3 (also `answer` with fewer than four entries), 17, 4 (place: the smallest node
+ * that breaks a rule), 5 (place: the first cell), 6, 7, 12, 13, 20, 8. */
+uint64_t legzhuro_family_step(uint64_t *family, size_t family_len, uint32_t member, uint32_t *kept, size_t kept_len, int32_t source,
+                              uint32_t scale, const int32_t *targets, size_t targets_len, const uint32_t *lows, size_t lows_len,
+                              const uint32_t *highs, size_t highs_len, const uint32_t *safe_lows, size_t safe_lows_len,
+                              const uint32_t *safe_highs, size_t safe_highs_len, const uint32_t *weights, size_t weights_len,
+                              const uint32_t *parents, size_t parents_len, int64_t *scratch, size_t scratch_len, uint64_t *answer,
+                              size_t answer_len);
 
 /* Makes the bounds of a field from mixing ratios: air[c] is the mass of the air of cell c, of 1 to 512 cells, low_ratios[c] and high_ratios[c]
  * are its ratios in parts of 1048576, at most that each. lows[c] is air times low ratio / 1048576 rounded up, highs[c] air times high ratio /

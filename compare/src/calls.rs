@@ -105,6 +105,44 @@ extern "C" {
         safe_highs: *mut u32,
         safe_highs_len: usize,
     ) -> u64;
+    fn legzhuro_family_start(cap: u64, scale: u32, cells: u32, family: *mut u64, family_len: usize) -> u64;
+    fn legzhuro_family_open(
+        family: *mut u64,
+        family_len: usize,
+        member: u32,
+        kept: *const u32,
+        kept_len: usize,
+        scale: u32,
+        answer: *mut u64,
+        answer_len: usize,
+    ) -> u64;
+    fn legzhuro_family_step(
+        family: *mut u64,
+        family_len: usize,
+        member: u32,
+        kept: *mut u32,
+        kept_len: usize,
+        source: i32,
+        scale: u32,
+        targets: *const i32,
+        targets_len: usize,
+        lows: *const u32,
+        lows_len: usize,
+        highs: *const u32,
+        highs_len: usize,
+        safe_lows: *const u32,
+        safe_lows_len: usize,
+        safe_highs: *const u32,
+        safe_highs_len: usize,
+        weights: *const u32,
+        weights_len: usize,
+        parents: *const u32,
+        parents_len: usize,
+        scratch: *mut i64,
+        scratch_len: usize,
+        answer: *mut u64,
+        answer_len: usize,
+    ) -> u64;
 }
 
 // Safety of every wrapper: the pointers and lengths are those of slices, so they are valid, aligned and not null, and exclusive borrows
@@ -237,6 +275,58 @@ pub fn bounds(
             safe_lows.len(),
             safe_highs.as_mut_ptr(),
             safe_highs.len(),
+        )
+    }
+}
+
+pub fn family_start(cap: u64, scale: u32, cells: u32, family: &mut [u64]) -> u64 {
+    unsafe { legzhuro_family_start(cap, scale, cells, family.as_mut_ptr(), family.len()) }
+}
+
+pub fn family_open(family: &mut [u64], member: u32, kept: &[u32], scale: u32, answer: &mut [u64]) -> u64 {
+    unsafe {
+        legzhuro_family_open(family.as_mut_ptr(), family.len(), member, kept.as_ptr(), kept.len(), scale, answer.as_mut_ptr(), answer.len())
+    }
+}
+
+#[allow(clippy::too_many_arguments)] // those of the call
+pub fn family_step(
+    family: &mut [u64],
+    member: u32,
+    kept: &mut [u32],
+    source: i32,
+    scale: u32,
+    lists: &Lists,
+    scratch: &mut [i64],
+    answer: &mut [u64],
+) -> u64 {
+    unsafe {
+        legzhuro_family_step(
+            family.as_mut_ptr(),
+            family.len(),
+            member,
+            kept.as_mut_ptr(),
+            kept.len(),
+            source,
+            scale,
+            lists.targets.as_ptr(),
+            lists.targets.len(),
+            lists.lows.as_ptr(),
+            lists.lows.len(),
+            lists.highs.as_ptr(),
+            lists.highs.len(),
+            lists.safe_lows.as_ptr(),
+            lists.safe_lows.len(),
+            lists.safe_highs.as_ptr(),
+            lists.safe_highs.len(),
+            lists.weights.as_ptr(),
+            lists.weights.len(),
+            lists.parents.as_ptr(),
+            lists.parents.len(),
+            scratch.as_mut_ptr(),
+            scratch.len(),
+            answer.as_mut_ptr(),
+            answer.len(),
         )
     }
 }

@@ -47,12 +47,12 @@ pub fn sound_scale(random: &mut Random) -> u32 {
 }
 
 /// A scale that is out of range; now and then one that only looks right in 8 or 16 bits.
-fn wrong_scale(random: &mut Random) -> u32 {
+pub fn wrong_scale(random: &mut Random) -> u32 {
     let any = random.between(i64::from(MAX_SCALE) + 1, i64::from(u32::MAX)) as u32;
     random.pick(&[31, 31, 32, 33, 40, 63, 64, 256 + 8, 65536 + 8, 1 << 31, u32::MAX, any])
 }
 
-fn make_scale(random: &mut Random) -> u32 {
+pub fn make_scale(random: &mut Random) -> u32 {
     match random.below(10) {
         0 => wrong_scale(random),
         1 | 2 => random.pick(&[0, MAX_SCALE]),
@@ -191,7 +191,7 @@ pub fn splits(tally: &mut Tally, random: &mut Random, count: u64) {
 
 // ---- open ----
 
-fn make_kept(random: &mut Random) -> Vec<u32> {
+pub fn make_kept(random: &mut Random) -> Vec<u32> {
     let cells = if random.chance(10) { random.pick(&[0, 511, 512, 513, 600, 1024]) } else { random::cell_count(random) };
     if cells == 0 {
         return Vec::new();

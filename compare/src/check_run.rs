@@ -42,7 +42,7 @@ fn next_field(random: &mut Random, kept: &[u32], wanted: u32, outcome: u64) -> F
 }
 
 /// The next total: mostly a small source away, now and then anywhere, at 0 or at the limit.
-fn next_total(random: &mut Random, total: u32) -> u32 {
+pub fn next_total(random: &mut Random, total: u32) -> u32 {
     let limit = LIMIT as i64;
     let wanted = match random.below(100) {
         0 => random.between(0, limit),
@@ -56,6 +56,11 @@ fn next_total(random: &mut Random, total: u32) -> u32 {
 /// A call on the kept field that all checks let pass.
 fn good_call(random: &mut Random, kept: &[u32], balance: Balance) -> StepCall {
     let wanted = next_total(random, balance.total);
+    call_to(random, kept, balance, wanted)
+}
+
+/// The same to the total wanted.
+pub fn call_to(random: &mut Random, kept: &[u32], balance: Balance, wanted: u32) -> StepCall {
     let outcome = random.below(3);
     let field = next_field(random, kept, wanted, outcome);
     StepCall {
@@ -70,7 +75,7 @@ fn good_call(random: &mut Random, kept: &[u32], balance: Balance) -> StepCall {
 }
 
 /// Gives the call a source that takes the total just out of reach of the field.
-fn miss_total(random: &mut Random, call: &mut StepCall) {
+pub fn miss_total(random: &mut Random, call: &mut StepCall) {
     let beyond = [sum(&call.field.safe_lows) as i64 - 1, sum(&call.field.safe_highs) as i64 + 1];
     call.source = (random.pick(&beyond) - i64::from(call.balance.total)).clamp(i64::from(i32::MIN), i64::from(i32::MAX)) as i32;
 }

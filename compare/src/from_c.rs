@@ -1,9 +1,10 @@
 //! The operations as `legzhuro.h` tells of its calls: what an operation gives goes to a lent list, a list too short for it counts under 3,
 //! and number and place come back in one value. Shares no code with the library.
 
+use crate::families::{self, check_family_cells, check_member, Family, Member, MEMBERS};
 use crate::files::{check_answer_header, AnswerHeader};
 use crate::operations::{check_cells, check_counts, refuse, Balance, Refusal};
-use crate::tree::{Lists, Workspace};
+use crate::tree::{Lists, Repair, Workspace};
 use crate::{doubles, files, operations};
 
 /// The value returned: the number in the low 32 bits, the place in the high 32.
@@ -38,11 +39,21 @@ pub fn split(
     Ok(())
 }
 
+/// What is told of an opening: total and scale.
+fn opening_values(balance: Balance) -> [u64; 2] {
+    [u64::from(balance.total), u64::from(balance.scale)]
+}
+
 pub fn open(kept: &[u32], scale: u32, answer: &mut [u64]) -> Result<(), Refusal> {
     check_length(answer, 2)?;
     let balance = operations::open(kept, scale)?;
-    answer[..2].copy_from_slice(&[u64::from(balance.total), u64::from(balance.scale)]);
+    answer[..2].copy_from_slice(&opening_values(balance));
     Ok(())
+}
+
+/// What is told of a step: outcome, new total, change and the sum shared out.
+fn step_values(repair: Repair) -> [u64; 4] {
+    [u64::from(repair.outcome), u64::from(repair.total), repair.change, repair.shared]
 }
 
 /// Step with `PER_NODE` scratch numbers for each node. The answer's length is checked with the other lengths, after 1 and 2. Of the new
@@ -60,8 +71,78 @@ pub fn step_by<const PER_NODE: usize>(
 ) -> Result<(), Refusal> {
     check_counts(lists.targets.len(), lists.parents.len())?;
     check_length(answer, 4)?;
-    let (repair, new) = operations::step_by::<PER_NODE>(workspace, balance, kept, source, scale, lists, scratch)?;
-    answer[..4].copy_from_slice(&[u64::from(repair.outcome), u64::from(new.total), repair.change, repair.shared]);
+    let (repair, _) = operations::step_by::<PER_NODE>(workspace, balance, kept, source, scale, lists, scratch)?;
+    answer[..4].copy_from_slice(&step_values(repair));
+    Ok(())
+}
+
+/// The entries of a family's list: cap, scale and cells, then for each member whether it is open, and its total.
+pub const FAMILY_ENTRIES: usize = 3 + 2 * MEMBERS;
+
+/// The place of a member's first entry.
+pub fn member_entry(member: usize) -> usize {
+    3 + 2 * member
+}
+
+/// The family in a list that is long enough. Of an entry that is too wide the lower bits count.
+pub fn read_family(list: &[u64]) -> Family {
+    let members = std::array::from_fn(|member| {
+        let entry = member_entry(member);
+        Member { opened: list[entry] % 2 == 1, total: list[entry + 1] as u32 }
+    });
+    Family { cap: list[0], scale: list[1] as u32, cells: list[2] as u32, members }
+}
+
+/// Writes a family to the front of a list that is long enough.
+pub fn write_family(family: &Family, list: &mut [u64]) {
+    list[..3].copy_from_slice(&[family.cap, u64::from(family.scale), u64::from(family.cells)]);
+    for (member, state) in family.members.iter().enumerate() {
+        let entry = member_entry(member);
+        list[entry] = u64::from(state.opened);
+        list[entry + 1] = u64::from(state.total);
+    }
+}
+
+pub fn family_start(cap: u64, scale: u32, cells: u32, list: &mut [u64]) -> Result<(), Refusal> {
+    check_length(list, FAMILY_ENTRIES)?;
+    let family = families::start_family(cap, scale, cells)?;
+    write_family(&family, list);
+    Ok(())
+}
+
+/// Both lengths are checked before all else.
+pub fn family_open(list: &mut [u64], member: u32, kept: &[u32], scale: u32, answer: &mut [u64]) -> Result<(), Refusal> {
+    check_length(list, FAMILY_ENTRIES)?;
+    check_length(answer, 2)?;
+    let mut family = read_family(list);
+    let balance = families::open_member(&mut family, member, kept, scale)?;
+    write_family(&family, list);
+    answer[..2].copy_from_slice(&opening_values(balance));
+    Ok(())
+}
+
+/// The family's length is checked before all else, the answer's with the other lengths, after 19, 1 and 2.
+#[allow(clippy::too_many_arguments)] // those of the call, and the workspace
+pub fn family_step(
+    workspace: &mut Workspace,
+    list: &mut [u64],
+    member: u32,
+    kept: &mut [u32],
+    source: i32,
+    scale: u32,
+    lists: &Lists,
+    scratch: &mut [i64],
+    answer: &mut [u64],
+) -> Result<(), Refusal> {
+    check_length(list, FAMILY_ENTRIES)?;
+    let mut family = read_family(list);
+    check_member(&family, member, true)?;
+    check_family_cells(&family, lists.targets.len())?;
+    check_counts(lists.targets.len(), lists.parents.len())?;
+    check_length(answer, 4)?;
+    let repair = families::step_member(workspace, &mut family, member, kept, source, scale, lists, scratch)?;
+    write_family(&family, list);
+    answer[..4].copy_from_slice(&step_values(repair));
     Ok(())
 }
 

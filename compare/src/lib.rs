@@ -1,8 +1,8 @@
-//! A second implementation of the paper 01 and of tickets 1 to 9 of 02 (`split`, `tree`, `operations`, `doubles`, `files`, `listing`,
-//! `query`, `ratios`), written from the papers alone and sharing no code with the proved library; the files of the test programs
-//! (`program`, `numbers`, `query_cases`); and, with the feature `library`, what compares the library with it: the calls from C (`calls`,
-//! and `from_c` for the second implementation's side), inputs (`random`, `damage`), and the checks that the comparison program runs
-//! (`tally`, `shared` and `check_...`).
+//! A second implementation of the paper 01 and of tickets 1 to 10 of 02 (`split`, `tree`, `operations`, `doubles`, `files`, `listing`,
+//! `query`, `ratios`, `families`), written from the papers alone and sharing no code with the proved library; the files of the test
+//! programs (`program`, `numbers`, `query_cases`); and, with the feature `library`, what compares the library with it: the calls from C
+//! (`calls`, and `from_c` for the second implementation's side), inputs (`random`, `damage`), and the checks that the comparison program
+//! runs (`tally`, `shared` and `check_...`).
 
 #[cfg(feature = "library")]
 pub mod calls;
@@ -13,6 +13,8 @@ pub mod check_calls;
 #[cfg(feature = "library")]
 pub mod check_examples;
 #[cfg(feature = "library")]
+pub mod check_families;
+#[cfg(feature = "library")]
 pub mod check_files;
 #[cfg(feature = "library")]
 pub mod check_published;
@@ -22,6 +24,7 @@ pub mod check_query;
 pub mod check_run;
 pub mod damage;
 pub mod doubles;
+pub mod families;
 pub mod files;
 pub mod from_c;
 pub mod listing;

@@ -5,12 +5,12 @@
 
 use compare::random::Random;
 use compare::tally::Tally;
-use compare::{check_bounds, check_calls, check_examples, check_files, check_published, check_query, check_run};
+use compare::{check_bounds, check_calls, check_examples, check_families, check_files, check_published, check_query, check_run};
 use std::path::Path;
 
 const SEED: u64 = 20190525;
 
-// The refusals that a call can give, after the section "Operations and what each turns down" of 01 and tickets 1, 2 and 5 to 9 of 02, in
+// The refusals that a call can give, after the section "Operations and what each turns down" of 01 and tickets 1, 2 and 5 to 10 of 02, in
 // its order of checks. From C a list that is too short for what a call gives counts under 3.
 const SPLIT: [usize; 6] = [1, 3, 5, 6, 7, 8];
 const OPEN: [usize; 4] = [3, 1, 9, 13];
@@ -40,6 +40,12 @@ const BOUNDS: [usize; 3] = [1, 3, 18];
 const BOUNDS_TO_STEP: [usize; 4] = [5, 6, 13, 8];
 // Totals in range that a field with one ratio does not have.
 const CONSISTENCY: [usize; 1] = [8];
+const FAMILY_START: [usize; 3] = [3, 1, 9];
+const FAMILY_OPEN: [usize; 7] = [3, 19, 1, 9, 17, 13, 20];
+// 3 comes first for the list of the family, and after 2 for the other lists.
+const FAMILY_STEP: [usize; 13] = [3, 19, 1, 2, 17, 4, 5, 6, 7, 12, 13, 20, 8];
+// Openings and steps.
+const FAMILY: [usize; 14] = [3, 19, 1, 2, 9, 17, 4, 5, 6, 7, 12, 13, 20, 8];
 
 const OUTCOMES: [usize; 3] = [0, 1, 2];
 
@@ -97,6 +103,16 @@ fn main() {
     tally.end_part("bounds to step", &BOUNDS_TO_STEP, &OUTCOMES);
     check_bounds::consistency(&mut tally, &mut random, scaled(30_000));
     tally.end_part("consistency", &CONSISTENCY, &[0]);
+    check_families::starts(&mut tally, &mut random, scaled(50_000));
+    tally.end_part("family start", &FAMILY_START, &[]);
+    check_families::opens(&mut tally, &mut random, scaled(100_000));
+    tally.end_part("family open", &FAMILY_OPEN, &[]);
+    check_families::steps(&mut tally, &mut random, scaled(150_000));
+    tally.end_part("family step", &FAMILY_STEP, &OUTCOMES);
+    for (cells, histories, calls) in [(8, 24, 4_000), (24, 8, 4_000), (512, 1, 6_000)] {
+        check_families::histories(&mut tally, &mut random, cells, histories, scaled(calls));
+        tally.end_part(&format!("families of {cells} cells"), &FAMILY, &OUTCOMES);
+    }
 
     if !tally.passes() {
         std::process::exit(1);

@@ -138,9 +138,20 @@ pub fn reconstruct(
     check_counts(lists.targets.len(), lists.parents.len())?;
     check_lengths(lists, masses.len(), scratch.len(), SCRATCH_PER_NODE)?;
     check_field(workspace, lists)?;
+    repair_to::<SCRATCH_PER_NODE>(workspace, lists, total, masses, scratch)
+}
+
+/// Check 8, and then what Reconstruct and Step do, for lists that have passed every other check.
+pub fn repair_to<const PER_NODE: usize>(
+    workspace: &mut Workspace,
+    lists: &Lists,
+    total: u32,
+    masses: &mut [u32],
+    scratch: &mut [i64],
+) -> Result<Repair, Refusal> {
     check_total(lists, total)?;
     let repair = repair(workspace, lists, total, masses);
-    scratch[..SCRATCH_PER_NODE * lists.parents.len()].fill(0);
+    scratch[..PER_NODE * lists.parents.len()].fill(0);
     Ok(repair)
 }
 
@@ -154,11 +165,16 @@ pub struct Balance {
 pub fn open(kept: &[u32], scale: u32) -> Result<Balance, Refusal> {
     check_cells(kept.len())?;
     check_scale(scale)?;
+    Ok(Balance { total: opening_total(kept)?, scale })
+}
+
+/// The total of an opening, after check 13.
+pub fn opening_total(kept: &[u32]) -> Result<u32, Refusal> {
     let total = sum(kept);
     if total > LIMIT {
         return refuse(13);
     }
-    Ok(Balance { total: total as u32, scale })
+    Ok(total as u32)
 }
 
 /// Check 17: `scale` is the one that the step names.
@@ -192,6 +208,21 @@ pub fn step_by<const PER_NODE: usize>(
     lists: &Lists,
     scratch: &mut [i64],
 ) -> Result<(Repair, Balance), Refusal> {
+    let total = check_step::<PER_NODE>(workspace, balance, kept, source, scale, lists, scratch)?;
+    let repair = repair_to::<PER_NODE>(workspace, lists, total, kept, scratch)?;
+    Ok((repair, Balance { total, scale: balance.scale }))
+}
+
+/// Step's checks up to 13: all but its last, 8. Returns the new total.
+pub fn check_step<const PER_NODE: usize>(
+    workspace: &mut Workspace,
+    balance: Balance,
+    kept: &[u32],
+    source: i32,
+    scale: u32,
+    lists: &Lists,
+    scratch: &[i64],
+) -> Result<u32, Refusal> {
     check_counts(lists.targets.len(), lists.parents.len())?;
     check_lengths(lists, kept.len(), scratch.len(), PER_NODE)?;
     check_step_scale(balance, scale)?;
@@ -199,12 +230,9 @@ pub fn step_by<const PER_NODE: usize>(
     if sum(kept) != u64::from(balance.total) {
         return refuse(12);
     }
-    let new_total = i64::from(balance.total) + i64::from(source);
-    if new_total < 0 || new_total > LIMIT as i64 {
+    let total = i64::from(balance.total) + i64::from(source);
+    if total < 0 || total > LIMIT as i64 {
         return refuse(13);
     }
-    check_total(lists, new_total as u32)?;
-    let repair = repair(workspace, lists, new_total as u32, kept);
-    scratch[..PER_NODE * lists.parents.len()].fill(0);
-    Ok((repair, Balance { total: new_total as u32, scale: balance.scale }))
+    Ok(total as u32)
 }

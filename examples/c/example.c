@@ -1,7 +1,7 @@
 /* Opens a kept field, steps it four times (the second step is refused for its total, the third for its scale), makes bounds from mixing ratios
- * (at first with a ratio that is refused) and steps the field with them, imports a cell's doubles, exports a mass as a double and one as a
- * binary32, writes the field as a file and repairs that file, and repairs the file named. Usage: example FIELD_FILE. The status is 0 if both
- * were repaired, else 1. */
+ * (at first with a ratio that is refused) and steps the field with them, steps two tracers under one cap (a step that would pass the cap is
+ * refused), imports a cell's doubles, exports a mass as a double and one as a binary32, writes the field as a file and repairs that file, and
+ * repairs the file named. Usage: example FIELD_FILE. The status is 0 if both were repaired, else 1. */
 #include <inttypes.h>
 #include <stdio.h>
 
@@ -87,6 +87,55 @@ static int step_by_ratios(uint64_t *balance, uint32_t *kept) {
     return step(balance, kept, 3, 1, &bounds);
 }
 
+/* Two tracers over the same cells: the list of the family, and the kept masses of each. */
+#define TRACERS 2
+
+struct tracers {
+    uint64_t family[LEGZHURO_FAMILY];
+    uint32_t kept[TRACERS][CELLS];
+};
+
+static int open_tracer(struct tracers *tracers, uint32_t member, uint32_t scale) {
+    uint64_t answer[2];
+
+    printf("tracer %" PRIu32 " open:", member);
+    uint64_t returned = legzhuro_family_open(tracers->family, LEGZHURO_FAMILY, member, tracers->kept[member], CELLS, scale, answer, 2);
+    if (returned != 0) return refused(returned);
+    printf(" total %" PRIu64 " scale %" PRIu64 "\n", answer[0], answer[1]);
+    return 0;
+}
+
+static int step_tracer(struct tracers *tracers, uint32_t member, int32_t source, uint32_t scale) {
+    static int64_t scratch[LEGZHURO_SCRATCH * NODES];
+    const struct bounds *bounds = &field_bounds;
+    uint64_t answer[4];
+
+    printf("tracer %" PRIu32 " step %" PRId32 ":", member, source);
+    uint64_t returned =
+        legzhuro_family_step(tracers->family, LEGZHURO_FAMILY, member, tracers->kept[member], CELLS, source, scale, targets, CELLS,
+                             bounds->lows, CELLS, bounds->highs, CELLS, bounds->safe_lows, CELLS, bounds->safe_highs, CELLS, weights, CELLS,
+                             parents, NODES, scratch, LEGZHURO_SCRATCH * NODES, answer, 4);
+    if (returned != 0) return refused(returned);
+    printf(" outcome %" PRIu64 " total %" PRIu64 " change %" PRIu64 " shared %" PRIu64, answer[0], answer[1], answer[2], answer[3]);
+    print_masses(tracers->kept[member], CELLS);
+    return 0;
+}
+
+/* A cap of 30 on both totals together. */
+static int step_tracers(void) {
+    struct tracers tracers = {{0}, {{1, 2, 3, 4}, {2, 2, 2, 2}}};
+
+    printf("family:");
+    uint64_t returned = legzhuro_family_start(30, 1, CELLS, tracers.family, LEGZHURO_FAMILY);
+    if (returned != 0) return refused(returned);
+    printf(" cap %" PRIu64 "\n", tracers.family[0]);
+    if (open_tracer(&tracers, 0, 1) != 0 || open_tracer(&tracers, 1, 1) != 0) return 1;
+    step_tracer(&tracers, 0, 6, 1);
+    step_tracer(&tracers, 1, 7, 1);
+    step_tracer(&tracers, 1, 6, 1);
+    return 0;
+}
+
 static int convert(void) {
     int64_t units[5];
     double value[1];
@@ -156,7 +205,7 @@ int main(int argc, char **argv) {
     step(balance, kept, 100, 1, &field_bounds);
     step(balance, kept, -9, 2, &field_bounds);
     step(balance, kept, -9, 1, &field_bounds);
-    if (step_by_ratios(balance, kept) != 0 || convert() != 0 || repair_written(16) != 0) return 1;
+    if (step_by_ratios(balance, kept) != 0 || step_tracers() != 0 || convert() != 0 || repair_written(16) != 0) return 1;
     int status = repair_read(in);
     fclose(in);
     return status;

@@ -1,6 +1,7 @@
 ! Opens a kept field, steps it four times (the second step is refused for its total, the third for its scale), makes bounds from
-! mixing ratios (at first with a ratio that is refused) and steps the field with them, exports the masses as doubles and as binary32
-! values, writes the field as a file and repairs that file, and repairs the file named.
+! mixing ratios (at first with a ratio that is refused) and steps the field with them, steps two tracers under one cap (a step that
+! would pass the cap is refused), exports the masses as doubles and as binary32 values, writes the field as a file and repairs that
+! file, and repairs the file named.
 ! Usage: example FIELD_FILE. To build it, after rt staticlib legzhuro_c:
 ! gfortran -Jtarget include/legzhuro.f90 examples/fortran/example.f90 target/staticlib/liblegzhuro_c.a -o target/example_fortran
 program example
@@ -28,6 +29,7 @@ program example
     call make_bounds(legzhuro_ratio + 1)
     call make_bounds(legzhuro_ratio/4)
     call step(3, 1)
+    call step_tracers()
     call export_masses(total_scale)
     call repair_read()
 
@@ -49,6 +51,44 @@ contains
         print '(a, i0, 5(a, i0), a, *(1x, i0))', 'step ', source, ' at scale ', scale, ': outcome ', answer(1), ' total ', &
             answer(2), ' change ', answer(3), ' shared ', answer(4), ' masses', kept
     end subroutine step
+
+    ! Two tracers over the same cells with the bounds made, under a cap of 21 on both totals together.
+    subroutine step_tracers()
+        integer(c_int64_t) :: family(legzhuro_family)
+        integer(c_int32_t) :: tracers(cells, 0:1)
+        integer(c_int32_t) :: member
+
+        tracers(:, 0) = [2, 4, 1, 3]
+        tracers(:, 1) = [2, 4, 1, 2]
+        returned = legzhuro_family_start(21_c_int64_t, 1, int(cells, c_int32_t), family, size(family, kind=c_size_t))
+        if (returned /= 0) error stop 'the family was refused'
+        do member = 0, 1
+            returned = legzhuro_family_open(family, size(family, kind=c_size_t), member, tracers(:, member), cells, 1, answer, &
+                                            size(answer, kind=c_size_t))
+            if (returned /= 0) error stop 'a tracer was refused'
+            print '(3(a, i0))', 'tracer ', member, ' open: total ', answer(1), ' scale ', answer(2)
+        end do
+        call step_tracer(family, 1, tracers(:, 1), 3)
+        call step_tracer(family, 1, tracers(:, 1), 1)
+    end subroutine step_tracers
+
+    subroutine step_tracer(family, member, masses, source)
+        integer(c_int64_t), intent(inout) :: family(:)
+        integer(c_int32_t), intent(in) :: member, source
+        integer(c_int32_t), intent(inout) :: masses(cells)
+        integer(c_int64_t) :: scratch(legzhuro_scratch*nodes)
+
+        returned = legzhuro_family_step(family, size(family, kind=c_size_t), member, masses, cells, source, 1, targets, cells, &
+                                        lows, cells, highs, cells, safe_lows, cells, safe_highs, cells, weights, cells, &
+                                        parents, nodes, scratch, size(scratch, kind=c_size_t), answer, size(answer, kind=c_size_t))
+        if (returned /= 0) then
+            print '(4(a, i0))', 'tracer ', member, ' step ', source, ': refused ', legzhuro_number(returned), ' ', &
+                legzhuro_place(returned)
+            return
+        end if
+        print '(6(a, i0), a, *(1x, i0))', 'tracer ', member, ' step ', source, ': outcome ', answer(1), ' total ', answer(2), &
+            ' change ', answer(3), ' shared ', answer(4), ' masses', masses
+    end subroutine step_tracer
 
     ! Bounds by each cell's air mass, and a ratio of a quarter but for the high ratio of cell 2. With all ratios equal and each
     ! product whole, every mass of the step is air times ratio, whatever the targets.

@@ -29,13 +29,20 @@ pub run-append : {E S : Type 0} {Move : S → E → S → Type 0} {s t u : S} {x
 run-append Run.done r = r
 run-append (Run.step m q) r = Run.step m (run-append q r)
 
--- where each move is a run of other events, so is a run
+-- where each move from a state with an invariant keeps it and is a run of other events between other states, so is a run
+pub run-through :
+    {E D S T : Type 0} {Move : S → E → S → Type 0} {Other : T → D → T → Type 0} (f : E → List D) (g : S → T) (Inv : S → Type 0)
+    → ((s t : S) (e : E) → Inv s → Move s e t → Run Other (g s) (f e) (g t) × Inv t) → (s t : S) (es : List E) → Inv s → Run Move s es t
+    → Run Other (g s) (collect f es) (g t)
+unfolding collect
+run-through f g Inv h s t [] i Run.done = Run.done
+run-through f g Inv h s t (e ∷ es) i (Run.step {t = u} m r) = let z = h s u e i m in run-append (z .0) (run-through f g Inv h u t es (z .1) r)
+
+-- the same between the same states
 pub run-collect :
     {E D S : Type 0} {Move : S → E → S → Type 0} {Other : S → D → S → Type 0} (f : E → List D)
     → ((s t : S) (e : E) → Move s e t → Run Other s (f e) t) → (s t : S) (es : List E) → Run Move s es t → Run Other s (collect f es) t
-unfolding collect
-run-collect f h s t [] Run.done = Run.done
-run-collect f h s t (e ∷ es) (Run.step {t = u} m r) = run-append (h s u e m) (run-collect f h u t es r)
+run-collect f h s t es r = run-through f (λ x. x) (λ x. Unit) (λ x y e i m. (h x y e m, tt)) s t es tt r
 
 -- a fact of every event gives another
 pub all-map : {E : Type 0} {P Q : E → Type 0} {es : List E} → ((e : E) → P e → Q e) → All P es → All Q es

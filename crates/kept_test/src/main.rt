@@ -174,9 +174,9 @@ fn one_call(run: Run, kept: &mut [u32; 8]) -> Run {
     );
     let source = draw(state, 3001);
     let fault = draw(source.state, 14);
-    cross(fault.value, &mut lows, &mut highs);
+    cross(fault.value == 2, &mut lows, &mut highs);
     let mut parents = [0u32; 15];
-    fill_parents(kind.value, fault.value, &mut parents);
+    fill_parents(kind.value, fault.value == 3, &mut parents);
     let balance = run.balance;
     let answer = step_by(
         given_balance(balance, fault.value),

@@ -1,10 +1,13 @@
-// The calls from C, a static library. `include/legzhuro.h` documents them. Public: the ten functions here; what they share is in `returns`
-// and the work of the file call in `whole`. Relies on every operation and on `repair_file` and `numbers`.
+// The calls from C, a static library. `include/legzhuro.h` documents them. Public: the thirteen functions here; what they share is in `returns`
+// and in `call_values`, the work of the file call in `whole`, that of the calls on a family in `family_calls`. Relies on every operation and on
+// `repair_file` and `numbers`.
 ghost use Rattle.caas_spec.specs.Operation.{splitCall};
 ghost use Rattle.qlt_spec.specs.Field.{lists};
 ghost use Rattle.kept_spec.specs.Step.{stepCall};
 ghost use Rattle.bounds_spec.specs.Bounds.{mixing, bounds, boundsCall};
 ghost use Rattle.files_spec.specs.WriteField.{fieldWriteCall};
+ghost use Rattle.family_spec.specs.Member.{stepInputs};
+ghost use Rattle.family_calls.specs.Calls.{FamilyStartReturns, FamilyOpenReturns, FamilyStepReturns};
 ghost use Rattle.legzhuro_c.specs.Calls.{ReconstructReturns, SplitReturns, OpenReturns, StepReturns, BoundsReturns, ImportReturns, ExportReturns, SingleReturns};
 ghost use Rattle.legzhuro_c.specs.FileCalls.{WriteFieldReturns, ReadAnswerReturns};
 use bounds_spec::Bounded;
@@ -296,4 +299,72 @@ pub extern "C" fn legzhuro_read_answer(file: &[u8], masses: &mut [u32], answer: 
         AnswerRead::Read { cells, repair } => returns::put_answer(cells, repair, answer),
         AnswerRead::Refused { number, place } => call_values::refusal(number, place),
     }
+}
+
+// Start a family, which stands in a lent list.
+#[no_mangle]
+pub extern "C" fn legzhuro_family_start(cap: u64, scale: u32, cells: u32, family: &mut [u64]) -> u64
+    ensures { λ r. ⌜ FamilyStartReturns cap scale cells (now (family .entry)) r (now (family .exit)) ⌝ }
+{
+    family_calls::start(cap, scale, cells, family)
+}
+
+// Open a member of a family: answer[0] is the total, answer[1] the scale.
+#[no_mangle]
+pub extern "C" fn legzhuro_family_open(
+    family: &mut [u64],
+    member: u32,
+    kept: &[u32],
+    scale: u32,
+    answer: &mut [u64],
+) -> u64
+    ensures { λ r.
+        ⌜ FamilyOpenReturns (now (family .entry)) member (now (kept .entry)) scale (now (answer .entry)) r (now (family .exit))
+        (now (answer .exit)) ⌝ }
+{
+    family_calls::open(family, member, kept, scale, answer)
+}
+
+// Step a member of a family: answer[0] is the outcome, answer[1] the new total, answer[2] the change, answer[3] what was shared out.
+#[no_mangle]
+pub extern "C" fn legzhuro_family_step(
+    family: &mut [u64],
+    member: u32,
+    kept: &mut [u32],
+    source: i32,
+    scale: u32,
+    targets: &[i32],
+    lows: &[u32],
+    highs: &[u32],
+    safe_lows: &[u32],
+    safe_highs: &[u32],
+    weights: &[u32],
+    parents: &[u32],
+    scratch: &mut [i64],
+    answer: &mut [u64],
+) -> u64
+    ensures { λ r.
+        ⌜ FamilyStepReturns (now (family .entry)) member
+        (stepInputs (now (kept .entry)) source scale
+        (lists (now (targets .entry)) (now (lows .entry)) (now (highs .entry)) (now («safe_lows» .entry)) (now («safe_highs» .entry))
+        (now (weights .entry)) (now (parents .entry)))
+        (now (scratch .entry)))
+        (now (answer .entry)) r (now (family .exit)) (now (kept .exit)) (now (scratch .exit)) (now (answer .exit)) ⌝ }
+{
+    family_calls::step(
+        family,
+        member,
+        kept,
+        source,
+        scale,
+        targets,
+        lows,
+        highs,
+        safe_lows,
+        safe_highs,
+        weights,
+        parents,
+        scratch,
+        answer,
+    )
 }

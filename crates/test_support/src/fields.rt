@@ -65,11 +65,11 @@ pub fn fill(
     next
 }
 
-// By fault 2, crosses the bounds of cell 3 if they differ.
-pub fn cross(fault: u32, lows: &mut [u32; 8], highs: &mut [u32; 8]) {
+// Crosses the bounds of cell 3, if they are to be crossed and differ.
+pub fn cross(crossed: bool, lows: &mut [u32; 8], highs: &mut [u32; 8]) {
     let low = lows[3];
     let high = highs[3];
-    if fault == 2 && low < high {
+    if crossed && low < high {
         lows[3] = high;
         highs[3] = low;
     }
@@ -98,9 +98,9 @@ fn caterpillar(v: u32) -> u32 {
     if v < 14 { v + 1 } else { 14 }
 }
 
-// A node's parent in the tree of a kind: flat, balanced or a caterpillar; by fault 3 the first node is its own.
-fn parent(kind: u32, fault: u32, v: u32) -> u32 {
-    if fault == 3 && v == 0 {
+// A node's parent in the tree of a kind: flat, balanced or a caterpillar; in a broken one the first node is its own.
+fn parent(kind: u32, broken: bool, v: u32) -> u32 {
+    if broken && v == 0 {
         return 0;
     }
     if kind == 0 {
@@ -114,10 +114,10 @@ fn parent(kind: u32, fault: u32, v: u32) -> u32 {
 }
 
 // Writes the parents of the tree of a kind.
-pub fn fill_parents(kind: u32, fault: u32, parents: &mut [u32; 15]) {
+pub fn fill_parents(kind: u32, broken: bool, parents: &mut [u32; 15]) {
     let mut v: u32 = 0;
     while v < 15 {
-        parents[v as usize] = parent(kind, fault, v);
+        parents[v as usize] = parent(kind, broken, v);
         v += 1;
     }
 }

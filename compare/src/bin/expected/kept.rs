@@ -1,26 +1,11 @@
 //! The test program of Open and Step: four openings, a line for each; from the last, of 8 kept cells, 12,000 steps whose fields are drawn
 //! by a generator, some with a fault, and a line after every 500.
 
+use crate::draws::{draw_field, Draws, CELLS};
 use crate::output;
 use compare::operations::{open, step, Balance, Refusal, SCRATCH_PER_NODE};
 use compare::program::Program;
-use compare::random::{binary, chain, flat};
-use compare::tree::{sum, Field, Workspace};
-
-const CELLS: usize = 8;
-
-/// The generator of that program, a linear congruential one.
-struct Draws {
-    state: u64,
-}
-
-impl Draws {
-    /// A number below `end`.
-    fn below(&mut self, end: u32) -> u32 {
-        self.state = (self.state * 1103515245 + 12345) % (1 << 31);
-        (self.state >> 16) as u32 % end
-    }
-}
+use compare::tree::{sum, Workspace};
 
 /// The kept field of a run.
 struct Run {
@@ -34,32 +19,10 @@ struct Run {
     shared: u64,
 }
 
-/// Draws the cells of a field around the kept masses.
-fn draw_cells(draws: &mut Draws, kept: &[u32; CELLS]) -> Field {
-    let mut field = Field::default();
-    for &mass in kept {
-        let (target, below, above) = (draws.below(201), draws.below(150), draws.below(150));
-        let (safe_below, safe_above, weight) = (draws.below(300), draws.below(300), draws.below(4));
-        let (low, high) = (mass.saturating_sub(below), mass + above);
-        field.targets.push((i64::from(mass) + i64::from(target) - 100) as i32);
-        field.lows.push(low);
-        field.highs.push(high);
-        field.safe_lows.push(low.saturating_sub(safe_below));
-        field.safe_highs.push(high + safe_above);
-        field.weights.push(weight);
-    }
-    field
-}
-
 /// Draws a field and a source, and a fault or none: another total, crossed bounds, a node that is its own parent, a source that goes too
 /// far down or up, a scale out of range or another one, another scale of the record, or both out of range. Then steps.
 fn one_step(workspace: &mut Workspace, draws: &mut Draws, run: &mut Run) {
-    let parents = match draws.below(3) {
-        0 => flat(CELLS),
-        1 => binary(CELLS),
-        _ => chain(CELLS),
-    };
-    let mut field = Field { parents, ..draw_cells(draws, &run.kept) };
+    let mut field = draw_field(draws, &run.kept);
     let (mut balance, mut source, mut scale) = (run.balance, draws.below(3001) as i32 - 1500, run.balance.scale);
     match draws.below(14) {
         1 => balance.total += 1,
@@ -109,7 +72,7 @@ pub fn expected(_: &Program) -> String {
         return text;
     };
     let mut run = Run { kept, balance, accepted: 0, refused: 0, refused_for_scale: 0, shared: 0 };
-    let (mut workspace, mut draws) = (Workspace::default(), Draws { state: 1 });
+    let (mut workspace, mut draws) = (Workspace::default(), Draws::default());
     for steps in 1..=12_000 {
         one_step(&mut workspace, &mut draws, &mut run);
         if steps % 500 == 0 {

@@ -4,6 +4,8 @@
 
 mod bounds;
 mod doubles;
+mod draws;
+mod family;
 mod files;
 mod kept;
 mod output;
@@ -20,7 +22,7 @@ use std::path::{Path, PathBuf};
 type Expected = fn(&Program) -> String;
 
 /// The test programs by their crates: the one place where these are named.
-const PROGRAMS: [(&str, Expected); 10] = [
+const PROGRAMS: [(&str, Expected); 11] = [
     ("split_test", split::expected),
     ("reconstruct_test", reconstruct::expected),
     ("kept_test", kept::expected),
@@ -31,6 +33,7 @@ const PROGRAMS: [(&str, Expected); 10] = [
     ("query_test", query::expected),
     ("legzhuro_query", query::expected_line),
     ("bounds_test", bounds::expected),
+    ("family_test", family::expected),
 ];
 
 /// Compares an output with the one stored: the number of lines, or the first line that differs.

@@ -1,0 +1,4 @@
+pub mod ListLaws
+pub mod CallLaws
+pub mod OwnLaws
+pub mod RunLaws

@@ -1,0 +1,121 @@
+-- Histories of the calls from C are histories of the operations, so the theorems about every history hold of them. A call whose list for the
+-- values is too short is refused before its operation is called, and leaves everything. Assumes nothing.
+use mathlib.Core.Path.{_≡_, refl, sym, _∙_, ap, subst}
+use mathlib.Core.Bool.{Bool, true, false, cond}
+use mathlib.Core.List.{List, [], _∷_, _++_, map}
+use Prim.Native.Nat.{ℕ, _≤_}
+use lib.Dec.{leb, eqb}
+use lib.IntN.{ℤ}
+use lib.ListN.{length}
+use borrow.Author.Tests.{leb-true, leb-false, eqb-true}
+use Rattle.numbers.specs.Checks.{Answered}
+use Rattle.kept_spec.specs.Step.{StepResult}
+use Rattle.kept_spec.specs.Run.{Run, collect}
+use Rattle.kept_spec.proofs.RunLaws.{run-through}
+use Rattle.kept_spec.proofs.OpenLaws.{open-answer-tells}
+use Rattle.kept_spec.proofs.StepLaws.{answer-tells}
+use Rattle.call_values.specs.Values.{openValues, stepValues}
+use Rattle.family_spec.specs.Family.{totals, terms}
+use Rattle.family_spec.specs.Member.{StepInputs}
+use Rattle.family_spec.specs.History.{placeIf, Lends, FamilyMoves, callsOf, view, told, held, openingsOf, stepsOf}
+use Rattle.family_spec.specs.Claims.{Begins, IsOpen, MemberAccount}
+use Rattle.family_spec.proofs.Histories.{accounts, unopened, capped, alone}
+use Rattle.family_calls.specs.List.{familyEntries, familyIn}
+use Rattle.family_calls.specs.Calls.{FamilyStartReturns, FamilyOpenReturns, FamilyStepReturns}
+use Rattle.family_calls.specs.CallRuns.{FamilyCall, ListStanding, standingIn, openTold, stepTold, eventOf, eventsOf, FamilyCallMoves}
+use Rattle.family_calls.proofs.OwnLaws.{start-own, start-length, open-length, open-own, open-short, step-length, step-own, step-short}
+
+-- ---- an opening
+
+module _ (s : ListStanding) (h : familyEntries ≤ length (s .family)) {i : ℕ} {kept : List ℕ} {k : ℕ} {answer : List ℕ} {r : ℕ} {family′ answer′ : List ℕ} (p : FamilyOpenReturns (s .family) i kept k answer r family′ answer′) where
+  abbrev opening : FamilyCall
+  opening = FamilyCall.opens (s .family) i kept k answer r family′ answer′
+
+  abbrev opened : ListStanding
+  opened = record { family = family′; kept = placeIf (openTold r answer′) (s .kept) i kept }
+
+  opens-by : (b : Bool) → leb openValues (length answer) ≡ b → Run FamilyMoves (standingIn s) (cond b (eventOf opening ∷ []) []) (standingIn opened)
+  opens-by true e =
+      subst (λ a. Run FamilyMoves (standingIn s) (eventOf opening ∷ []) (record { family = familyIn family′; kept = placeIf a (s .kept) i kept })) (open-answer-tells (openTold r answer′))
+      (Run.step (FamilyMoves.opens (open-own (s .family) i kept k answer r family′ answer′ p h (leb-true openValues _ e))) Run.done)
+  opens-by false e =
+      let z = open-short (s .family) i kept k answer r family′ answer′ p h (leb-false openValues _ e) in
+      subst (Run FamilyMoves (standingIn s) [])
+      (λ y. record { family = familyIn (sym (z .1 .0) y); kept = ap (λ n. placeIf (openTold n answer′) (s .kept) i kept) (sym (z .0)) y }) Run.done
+
+-- ---- a step
+
+-- a refused step that left what it was lent leaves every member's masses
+left-alone :
+    {all all′ : ℕ → List ℕ} {i : ℕ} {given left : List ℕ} {told : Answered StepResult} → left ≡ given → Lends all i given told left all′ → (j : ℕ) → all′ j ≡ all j
+left-alone {all} {i = i} {given = given} {left = left} e (Lends.own before rest part whole) j = by-test (eqb j i) refl
+  where
+    by-test : (b : Bool) → eqb j i ≡ b → cond b (before ++ (left ++ rest)) (all j) ≡ all j
+    by-test true t = ap (λ l. before ++ (l ++ rest)) e ∙ sym part ∙ ap all (sym (eqb-true j i t))
+    by-test false t = refl
+left-alone e (Lends.elsewhere n) j = refl
+
+module _ (s : ListStanding) (h : familyEntries ≤ length (s .family)) {i : ℕ} {x : StepInputs} {answer : List ℕ} {r : ℕ} {family′ kept : List ℕ} {scratch : List ℤ} {answer′ : List ℕ} {all : ℕ → List ℕ} (p : FamilyStepReturns (s .family) i x answer r family′ kept scratch answer′) (q : Lends (s .kept) i (x .kept) (stepTold (s .family) i x r answer′) kept all) where
+  abbrev stepping : FamilyCall
+  stepping = FamilyCall.steps (s .family) i x answer r family′ kept scratch answer′
+
+  abbrev stepped : ListStanding
+  stepped = record { family = family′; kept = all }
+
+  steps-by : (b : Bool) → leb stepValues (length answer) ≡ b → Run FamilyMoves (standingIn s) (cond b (eventOf stepping ∷ []) []) (standingIn stepped)
+  steps-by true e =
+      Run.step
+      (FamilyMoves.steps (step-own (s .family) i x answer r family′ kept scratch answer′ p h (leb-true stepValues _ e))
+      (subst (λ a. Lends (s .kept) i (x .kept) a kept all) (sym (answer-tells (stepTold (s .family) i x r answer′))) q))
+      Run.done
+  steps-by false e =
+      let z = step-short (s .family) i x answer r family′ kept scratch answer′ p h (leb-false stepValues _ e) in
+      subst (Run FamilyMoves (standingIn s) [])
+      (λ y. record { family = familyIn (sym (z .1 .0) y); kept = λ j. sym (left-alone (z .1 .1 .0) q j) y }) Run.done
+
+-- ---- every history
+
+abbrev Long : ListStanding → Type 0
+Long s = familyEntries ≤ length (s .family)
+
+moves-through : (s t : ListStanding) (e : FamilyCall) → Long s → FamilyCallMoves s e t → Run FamilyMoves (standingIn s) (eventsOf e) (standingIn t) × Long t
+moves-through s t e h (FamilyCallMoves.opens {answer = answer} p) = (opens-by s h p (leb openValues (length answer)) refl, open-length _ _ _ _ _ _ _ _ p h)
+moves-through s t e h (FamilyCallMoves.steps {answer = answer} p q) = (steps-by s h p q (leb stepValues (length answer)) refl, step-length _ _ _ _ _ _ _ _ _ p h)
+
+pub call-run : (s t : ListStanding) (es : List FamilyCall) → Long s → Run FamilyCallMoves s es t → Run FamilyMoves (standingIn s) (collect eventsOf es) (standingIn t)
+call-run = run-through eventsOf standingIn Long moves-through
+
+-- a start from C that returned 0, and then any history of calls
+abbrev pub begunWith : List ℕ → ListStanding
+begunWith family = record { family = family; kept = λ i. [] }
+
+module _ {cap scale n : ℕ} {family family′ : List ℕ} (h : familyEntries ≤ length family) (q : FamilyStartReturns cap scale n family 0 family′) where
+  pub call-begins : Begins cap scale n (standingIn (begunWith family′))
+  call-begins = record { contract = start-own cap scale n family 0 family′ q h; empty = λ i. refl }
+
+  module _ {end : ListStanding} {es : List FamilyCall} (r : Run FamilyCallMoves (begunWith family′) es end) where
+    run : Run FamilyMoves (standingIn (begunWith family′)) (collect eventsOf es) (standingIn end)
+    run = call-run (begunWith family′) end es (start-length cap scale n family 0 family′ q h) r
+
+    -- a member that is open keeps the whole account of its own run
+    pub call-accounts : (i : ℕ) → IsOpen (standingIn end) i ≡ true → MemberAccount i (collect eventsOf es) (standingIn end)
+    call-accounts i o = accounts call-begins run i o
+
+    -- one that is not has no opening and no Step
+    pub call-unopened :
+        (i : ℕ) → IsOpen (standingIn end) i ≡ false
+        → (openingsOf i (collect eventsOf es) ≡ []) × (stepsOf (terms (familyIn (end .family))) i (collect eventsOf es) ≡ [])
+    call-unopened i o = unopened call-begins run i o
+
+    -- the totals do not pass the cap in sum
+    pub call-capped : totals (familyIn (end .family)) ≤ cap
+    call-capped = capped call-begins run
+
+-- two histories of calls that agree in a member's calls and rooms tell it the same and leave it the same
+pub call-alone :
+    {scale n cap cap′ : ℕ} {family family′ other other′ : List ℕ} (h : familyEntries ≤ length family) (k : familyEntries ≤ length other)
+    → FamilyStartReturns cap scale n family 0 family′ → FamilyStartReturns cap′ scale n other 0 other′ → {end end′ : ListStanding} {es ds : List FamilyCall}
+    → Run FamilyCallMoves (begunWith family′) es end → Run FamilyCallMoves (begunWith other′) ds end′ → (i : ℕ)
+    → map view (callsOf i (collect eventsOf es)) ≡ map view (callsOf i (collect eventsOf ds))
+    → (map told (callsOf i (collect eventsOf es)) ≡ map told (callsOf i (collect eventsOf ds))) × (held (standingIn end) i ≡ held (standingIn end′) i)
+call-alone h k p q r s i c = alone (call-begins h p) (call-begins k q) (run h p r) (run k q s) i c

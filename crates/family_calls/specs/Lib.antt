@@ -1,0 +1,3 @@
+pub mod List
+pub mod Calls
+pub mod CallRuns

@@ -1,0 +1,362 @@
+-- Each member keeps the whole account of its own run: a member's history holds a run of Step, and demand 3 is its account. Assumes nothing.
+use mathlib.Core.Path.{_≡_, refl, sym, _∙_, ap, subst}
+use mathlib.Core.Logic.{_⊎_, ⊎-elim}
+use mathlib.Core.Bool.{true, false}
+use mathlib.Core.List.{List, [], _∷_, _++_}
+use Prim.Native.Nat.{ℕ, _*_, _<_}
+use native.Mathlib.Omega.{arith}
+use lib.Dec.{eqb}
+use lib.IntN.{ℤ}
+use borrow.Author.Tests.{eqb-true, eq-eqb}
+use Rattle.numbers.specs.declared.Checked.{Checked}
+use Rattle.numbers.specs.declared.Checked.the-variants.{Pass, Fail}
+use Rattle.numbers.specs.Lists.{sum}
+use Rattle.numbers.specs.Checks.{Answered, accepted, answered, after, OneOf}
+use Rattle.numbers.proofs.TestLaws.{Tested, holds, fails, tested, not-so, clash, and-first, and-second, and-intro}
+use Rattle.numbers.proofs.CheckLaws.{stop}
+use Rattle.numbers.proofs.ChainLaws.{Verdict, passed, failed, verdict, fails-number}
+use Rattle.qlt_spec.specs.Field.{nodes, scratchPerNode, field}
+use Rattle.qlt_spec.specs.Masses.{treeMasses}
+use Rattle.qlt_spec.specs.Operation.{cleared}
+use Rattle.kept_spec.specs.declared.Balance.{Balance}
+use Rattle.kept_spec.specs.declared.Opened.{Opened}
+use Rattle.kept_spec.specs.declared.Opened.the-variants.{Accepted}
+use Rattle.kept_spec.specs.declared.Stepped.{Stepped}
+use Rattle.kept_spec.specs.Open.{openVerdict, openBalance, openTells}
+use Rattle.kept_spec.specs.Step.{StepCall, newTotal, stepVerdict, stepResult, stepTells}
+use Rattle.kept_spec.specs.Run.{Run, collect}
+use Rattle.kept_spec.specs.Account.{Event, Standing, Accepts, balanceAfter, Promised, Moves, Account}
+use Rattle.kept_spec.proofs.RunLaws.{run-append}
+use Rattle.kept_spec.proofs.StepLaws.{step-decides, step-numbers}
+use Rattle.kept_spec.proofs.Demand3.{demand3, always-moves}
+use Rattle.family_spec.specs.declared.Member.{Member}
+use Rattle.family_spec.specs.Family.{openWith, memberAt, Terms, terms}
+use Rattle.family_spec.specs.Member.{openingVerdict, StepInputs, callOf, steppingVerdict}
+use Rattle.family_spec.specs.History.{FamilyEvent, FamilyStanding, FamilyMoves, only, MemberEvent, stepping, opened, stepped, Held, tellsBy, holdsBy, MemberMoves, balanceTold, openingOf, same, stepOf, openingsOf, stepsOf}
+use Rattle.family_spec.specs.Claims.{MemberAccount}
+use Rattle.family_spec.proofs.RuleLaws.{opened-decides, opening-opens, opening-accepts, SteppingOwn, stepping-steps, stepping-refused}
+use Rattle.family_spec.proofs.FamilyLaws.{Eight}
+use Rattle.family_spec.proofs.MemberLaws.{run-own, run-steady}
+
+-- ---- verdicts that are the same
+
+same-means : (u v : Checked) → same u v ≡ true → u ≡ v
+unfolding same
+same-means Pass Pass e = refl
+same-means Pass (Fail n p) e = absurd (clash e refl)
+same-means (Fail n p) Pass e = absurd (clash e refl)
+same-means (Fail n p) (Fail m q) e =
+    let a = eqb-true n m (and-first (eqb n m) (eqb p q) e) in
+    let b = eqb-true p q (and-second (eqb n m) (eqb p q) e) in
+    λ x. Fail (a x) (b x)
+
+same-fail : {u v : Checked} {number place : ℕ} → u ≡ Fail number place → v ≡ Fail number place → same u v ≡ true
+unfolding same
+same-fail {u} {v} {number} {place} e f = rw (e, f) (and-intro (eq-eqb number number refl) (eq-eqb place place refl))
+
+same-pass : {u v : Checked} → u ≡ Pass → v ≡ Pass → same u v ≡ true
+unfolding same
+same-pass {u} {v} e f = rw (e, f) refl
+
+-- ---- which calls count as Steps
+
+module _ (t : Terms) (i : ℕ) (m : Member) (space : ℤ) (x : StepInputs) where
+  abbrev mine : Checked
+  mine = steppingVerdict t i m space x
+
+  abbrev c : StepCall
+  c = callOf t m x
+
+  abbrev theirs : Checked
+  theirs = stepVerdict c
+
+  -- an accepted one does
+  pub counted-pass : mine ≡ Pass → same mine theirs ≡ true
+  counted-pass e = same-pass e (stepping-steps t i m space x e)
+
+  -- a refused one does if its number is none of the family's own
+  pub counted : (number place : ℕ) → mine ≡ Fail number place → (SteppingOwn number → ⊥) → same mine theirs ≡ true
+  counted number place e n = ⊎-elim (λ o. absurd (n o)) (λ b. same-fail e b) (stepping-refused t i m space x number place e)
+
+  -- and does not if it is 19 or 20, which Step never refuses with
+  pub uncounted : (number place : ℕ) → mine ≡ Fail number place → 18 < number → same mine theirs ≡ false
+  uncounted number place e h =
+      not-so (same mine theirs) (λ s. above (step-numbers c number .0 (fails-number (step-decides c) (sym (same-means mine theirs s) ∙ e))))
+    where
+      above : OneOf (1 ∷ 2 ∷ 3 ∷ 17 ∷ 4 ∷ 5 ∷ 6 ∷ 7 ∷ 12 ∷ 13 ∷ 8 ∷ []) number → ⊥
+      above o = unfold OneOf in
+          (⊎-elim (λ q. omega arith) (⊎-elim (λ q. omega arith) (⊎-elim (λ q. omega arith) (⊎-elim (λ q. omega arith) (⊎-elim (λ q. omega arith)
+          (⊎-elim (λ q. omega arith) (⊎-elim (λ q. omega arith) (⊎-elim (λ q. omega arith) (⊎-elim (λ q. omega arith) (⊎-elim (λ q. omega arith)
+          (⊎-elim (λ q. omega arith) (λ q. q))))))))))) o)
+
+  -- a member that is not open is told 19
+  closed-step : m .opened ≡ false → mine ≡ Fail 19 0
+  unfolding steppingVerdict
+  closed-step o = sym (stop _ (opened-decides i m .fails 19 0 .1 (refl, (refl, λ h. clash (h .1) o))))
+
+-- ---- a step of a member is a Step, unless the family refused it
+
+module _ (t : Terms) (i : ℕ) (m : Member) (space : ℤ) (x : StepInputs) (answer : Stepped) (kept : List ℕ) (scratch : List ℤ) where
+  abbrev v : Checked
+  v = steppingVerdict t i m space x
+
+  abbrev d : StepCall
+  d = callOf t m x
+
+  abbrev masses : List ℕ
+  masses = treeMasses (field (x .lists)) (newTotal d)
+
+  abbrev clear : List ℤ
+  clear = cleared (scratchPerNode * nodes (x .lists)) (x .scratch)
+
+  abbrev theStep : Event
+  theStep = record { call = d; answer = answer; kept = kept; scratch = scratch }
+
+  abbrev own : List Event
+  own = only (same v (stepVerdict d)) theStep
+
+  module _ (told-as : stepped (stepTells answer) kept scratch ≡ stepped (answered v (stepResult d)) (after v masses (x .kept)) (after v clear (x .scratch))) where
+    answers : stepTells answer ≡ answered v (stepResult d)
+    answers = cc
+
+    keeps : kept ≡ after v masses (x .kept)
+    keeps = cc
+
+    clears : scratch ≡ after v clear (x .scratch)
+    clears = cc
+
+    promised : v ≡ stepVerdict d → Promised theStep
+    promised e =
+        record {
+          answers = answers ∙ ap (λ w. answered w (stepResult d)) e;
+          leaves = record { writes = keeps ∙ ap (λ w. after w masses (x .kept)) e; clears = clears ∙ ap (λ w. after w clear (x .scratch)) e };
+        }
+
+    -- refused: whatever stands, stands
+    refused-step : {number place : ℕ} → v ≡ Fail number place → (s : Standing) → Run Moves s own s
+    refused-step {number} {place} e s = by-test (tested (same v (stepVerdict d)))
+      where
+        none : Accepts (stepTells answer) → ⊥
+        none a = subst Accepts (answers ∙ ap (λ w. answered w (stepResult d)) e) a
+
+        by-test : Tested (same v (stepVerdict d)) → Run Moves s (only (same v (stepVerdict d)) theStep) s
+        by-test (holds b) = rw b (Run.step (Moves.elsewhere (promised (same-means v (stepVerdict d) b)) none) Run.done)
+        by-test (fails b) = rw b Run.done
+
+    -- accepted: its masses and its new balance stand
+    accepted-step :
+        v ≡ Pass → (stands : List ℕ) → (Accepts (stepTells answer) → x .kept ≡ stands)
+        → Run Moves (record { kept = stands; balance = d .balance }) own (record { kept = masses; balance = stepResult d .balance })
+    accepted-step e stands lent =
+        let b : same v (stepVerdict d) ≡ true = counted-pass t i m space x e in
+        rw b
+        (subst (λ s. Run Moves (record { kept = stands; balance = d .balance }) (theStep ∷ []) s) after-it
+        (Run.step (always-moves (record { kept = stands; balance = d .balance }) theStep (promised (e ∙ sym (stepping-steps t i m space x e))) (lent yes) refl) Run.done))
+      where
+        told-accepted : stepTells answer ≡ accepted (stepResult d)
+        told-accepted = answers ∙ ap (λ w. answered w (stepResult d)) e
+
+        yes : Accepts (stepTells answer)
+        yes = subst Accepts (sym told-accepted) tt
+
+        after-it : _≡_ {A = Standing} (record { kept = kept; balance = balanceAfter (stepTells answer) (d .balance) }) (record { kept = masses; balance = stepResult d .balance })
+        after-it = λ z. record { kept = (keeps ∙ ap (λ w. after w masses (x .kept)) e) z; balance = ap (λ a. balanceAfter a (d .balance)) told-accepted z }
+
+-- ---- one call of a member
+
+abbrev standingOf : Terms → Held → Standing
+standingOf t h = record { kept = h .kept; balance = record { total = h .member .total; scale = t .scale } }
+
+opened-parts : {a b : Answered Balance} → opened a ≡ opened b → a ≡ b
+opened-parts e = cc
+
+-- a step that tells what it should, of the member as it stands
+module _ {t : Terms} {i : ℕ} {h h′ : Held} {m : Member} {space : ℤ} {x : StepInputs} {answer : Stepped} {kept : List ℕ} {scratch : List ℤ} (p : MemberMoves t i h (MemberEvent.steps m space x answer kept scratch) h′) where
+  told-by :
+      stepped (stepTells answer) kept scratch
+      ≡ stepped (answered (v t i m space x answer kept scratch) (stepResult (callOf t m x))) (after (v t i m space x answer kept scratch) (masses t i m space x answer kept scratch) (x .kept))
+      (after (v t i m space x answer kept scratch) (clear t i m space x answer kept scratch) (x .scratch))
+  unfolding tellsBy
+  told-by = p .tells ∙ ap (λ n. tellsBy t i n (stepping space x)) (sym (p .given))
+
+  step-refused : {number place : ℕ} → steppingVerdict t i m space x ≡ Fail number place → (h′ ≡ h) × ((s : Standing) → Run Moves s (stepOf t i (MemberEvent.steps m space x answer kept scratch)) s)
+  unfolding holdsBy
+  step-refused e =
+      let e′ : steppingVerdict t i (h .member) space x ≡ Fail _ _ = ap (λ n. steppingVerdict t i n space x) (sym (p .given)) ∙ e in (
+        p .holds
+            ∙ (λ z. record { member = after (e′ z) (openWith (newTotal (callOf t (h .member) x))) (h .member); kept = after (e′ z) (treeMasses (field (x .lists)) (newTotal (callOf t (h .member) x))) (h .kept) }),
+        λ s. refused-step t i m space x answer kept scratch told-by e s,
+      )
+
+  step-accepted : steppingVerdict t i m space x ≡ Pass → (h′ .member .opened ≡ true) × Run Moves (standingOf t h) (stepOf t i (MemberEvent.steps m space x answer kept scratch)) (standingOf t h′)
+  unfolding holdsBy
+  step-accepted e =
+      let e′ : steppingVerdict t i (h .member) space x ≡ Pass = ap (λ n. steppingVerdict t i n space x) (sym (p .given)) ∙ e in
+      let now : h′ ≡ record { member = openWith (newTotal (callOf t (h .member) x)); kept = treeMasses (field (x .lists)) (newTotal (callOf t (h .member) x)) } =
+      p .holds
+      ∙ (λ z. record { member = after (e′ z) (openWith (newTotal (callOf t (h .member) x))) (h .member); kept = after (e′ z) (treeMasses (field (x .lists)) (newTotal (callOf t (h .member) x))) (h .kept) }) in (
+        ap (λ g. g .member .opened) now,
+        subst (λ s. Run Moves (standingOf t h) (stepOf t i (MemberEvent.steps m space x answer kept scratch)) s)
+            (ap (λ n. standingOf t (record { member = openWith (newTotal (callOf t n x)); kept = treeMasses (field (x .lists)) (newTotal (callOf t n x)) })) (p .given) ∙ ap (standingOf t) (sym now))
+            (subst (λ n. Run Moves (record { kept = h .kept; balance = record { total = n .total; scale = t .scale } }) (stepOf t i (MemberEvent.steps m space x answer kept scratch)) (record { kept = treeMasses (field (x .lists)) (newTotal (callOf t m x)); balance = record { total = newTotal (callOf t m x); scale = t .scale } }))
+            (p .given) (accepted-step t i m space x answer kept scratch told-by e (h .kept) (p .lent))),
+      )
+
+-- an opening, by its verdict
+module _ {t : Terms} {i : ℕ} {h h′ : Held} {m : Member} {space : ℤ} {kept : List ℕ} {k : ℕ} {answer : Opened} (p : MemberMoves t i h (MemberEvent.opens m space kept k answer) h′) where
+  opening-tells : openTells answer ≡ answered (openingVerdict t i (h .member) space kept k) (openBalance kept k)
+  unfolding tellsBy
+  opening-tells = opened-parts (p .tells)
+
+  opening-refused : {number place : ℕ} → openingVerdict t i (h .member) space kept k ≡ Fail number place → (h′ ≡ h) × (openingOf (MemberEvent.opens m space kept k answer) ≡ [])
+  unfolding holdsBy
+  opening-refused e = (
+    p .holds ∙ (λ z. record { member = after (e z) (openWith (sum kept)) (h .member); kept = after (e z) kept (h .kept) }),
+    ap balanceTold (opening-tells ∙ ap (λ w. answered w (openBalance kept k)) e),
+  )
+
+  opening-accepted : openingVerdict t i (h .member) space kept k ≡ Pass → (h′ ≡ record { member = openWith (sum kept); kept = kept }) × (openingOf (MemberEvent.opens m space kept k answer) ≡ openBalance kept k ∷ [])
+  unfolding holdsBy
+  opening-accepted e = (
+    p .holds ∙ (λ z. record { member = after (e z) (openWith (sum kept)) (h .member); kept = after (e z) kept (h .kept) }),
+    ap balanceTold (opening-tells ∙ ap (λ w. answered w (openBalance kept k)) e),
+  )
+
+-- a member that is open stays open, is not opened again, and its call is a run of Step
+record Lives (t : Terms) (i : ℕ) (h : Held) (e : MemberEvent) (h′ : Held) : Type 0 where
+  still : h′ .member .opened ≡ true
+  none : openingOf e ≡ []
+  moves : Run Moves (standingOf t h) (stepOf t i e) (standingOf t h′)
+
+same-lives : {t : Terms} {i : ℕ} {h h′ : Held} {e : MemberEvent} → h .member .opened ≡ true → h′ ≡ h → openingOf e ≡ [] → ((s : Standing) → Run Moves s (stepOf t i e) s) → Lives t i h e h′
+same-lives {t} {i} {h} {h′} {e} o q n r =
+    record {
+      still = ap (λ g. g .member .opened) q ∙ o;
+      none = n;
+      moves = subst (λ s. Run Moves (standingOf t h) (stepOf t i e) s) (ap (standingOf t) (sym q)) (r (standingOf t h));
+    }
+
+lives : {t : Terms} {i : ℕ} {h h′ : Held} (e : MemberEvent) → h .member .opened ≡ true → MemberMoves t i h e h′ → Lives t i h e h′
+lives {t} {i} {h} {h′} (MemberEvent.opens m space kept k answer) o p = by-verdict (verdict (openingVerdict t i (h .member) space kept k))
+  where
+    by-verdict : Verdict (openingVerdict t i (h .member) space kept k) → Lives t i h (MemberEvent.opens m space kept k answer) h′
+    by-verdict (passed e) = absurd (clash o (opening-accepts t i (h .member) space kept k .0 e .not-open))
+    by-verdict (failed number place e) = let q = opening-refused p e in same-lives o (q .0) (q .1) (λ s. Run.done)
+lives {t} {i} {h} {h′} (MemberEvent.steps m space x answer kept scratch) o p = by-verdict (verdict (steppingVerdict t i m space x))
+  where
+    by-verdict : Verdict (steppingVerdict t i m space x) → Lives t i h (MemberEvent.steps m space x answer kept scratch) h′
+    by-verdict (passed e) = let q = step-accepted p e in record { still = q .0; none = refl; moves = q .1 }
+    by-verdict (failed number place e) = let q = step-refused p e in same-lives o (q .0) refl (q .1)
+
+-- ---- a member's history
+
+-- from when it is open: a run of Step
+lives-on :
+    {t : Terms} {i : ℕ} {h h′ : Held} {es : List MemberEvent} → h .member .opened ≡ true → Run (MemberMoves t i) h es h′
+    → (collect openingOf es ≡ []) × Run Moves (standingOf t h) (collect (stepOf t i) es) (standingOf t h′)
+unfolding collect
+lives-on o Run.done = (refl, Run.done)
+lives-on o (Run.step {e = e} {es = es} m r) =
+    let a = lives e o m in
+    let b = lives-on (a .still) r in
+    (ap (λ l. l ++ collect openingOf es) (a .none) ∙ b .0, run-append (a .moves) (b .1))
+
+lives-end : {t : Terms} {i : ℕ} {h h′ : Held} {es : List MemberEvent} → h .member .opened ≡ true → Run (MemberMoves t i) h es h′ → h′ .member .opened ≡ true
+lives-end o Run.done = o
+lives-end o (Run.step {e = e} m r) = lives-end (lives e o m .still) r
+
+-- a member that is not open: nothing happens to it, or it is opened
+data Begun (t : Terms) (i : ℕ) (h : Held) (e : MemberEvent) (h′ : Held) : Type 0 where
+  stays : h′ ≡ h → openingOf e ≡ [] → stepOf t i e ≡ [] → Begun t i h e h′
+  begins :
+      (kept : List ℕ) → openVerdict kept (t .scale) ≡ Pass → h′ ≡ record { member = openWith (sum kept); kept = kept }
+      → openingOf e ≡ openBalance kept (t .scale) ∷ [] → stepOf t i e ≡ [] → Begun t i h e h′
+
+begins-by : {t : Terms} {i : ℕ} {h h′ : Held} (e : MemberEvent) → h .member .opened ≡ false → MemberMoves t i h e h′ → Begun t i h e h′
+begins-by {t} {i} {h} {h′} (MemberEvent.opens m space kept k answer) o p = by-verdict (verdict (openingVerdict t i (h .member) space kept k))
+  where
+    by-verdict : Verdict (openingVerdict t i (h .member) space kept k) → Begun t i h (MemberEvent.opens m space kept k answer) h′
+    by-verdict (passed e) =
+        let q = opening-accepted p e in
+        let k-is = opening-accepts t i (h .member) space kept k .0 e .same-scale in
+        Begun.begins kept (ap (openVerdict kept) (sym k-is) ∙ opening-opens t i (h .member) space kept k e) (q .0) (q .1 ∙ ap (λ n. openBalance kept n ∷ []) k-is) refl
+    by-verdict (failed number place e) = let q = opening-refused p e in Begun.stays (q .0) (q .1) refl
+begins-by {t} {i} {h} {h′} (MemberEvent.steps m space x answer kept scratch) o p =
+    let e = closed-step t i m space x (ap (λ n. n .opened) (p .given) ∙ o) in
+    Begun.stays (step-refused p e .0) refl
+    (ap (λ b. only b (record { call = callOf t m x; answer = answer; kept = kept; scratch = scratch })) (uncounted t i m space x 19 0 e (omega arith)))
+
+-- the opening, and the run of Step after it
+record Life (t : Terms) (i : ℕ) (es : List MemberEvent) (end : Held) : Type 0 where
+  masses : List ℕ
+  fits : openVerdict masses (t .scale) ≡ Pass
+  once : collect openingOf es ≡ openBalance masses (t .scale) ∷ []
+  run : Run Moves (record { kept = masses; balance = openBalance masses (t .scale) }) (collect (stepOf t i) es) (standingOf t end)
+
+life : {t : Terms} {i : ℕ} {h h′ : Held} {es : List MemberEvent} → h .member .opened ≡ false → h′ .member .opened ≡ true → Run (MemberMoves t i) h es h′ → Life t i es h′
+unfolding collect
+life o n Run.done = absurd (clash n o)
+life {t} {i} {h} {h′} o n (Run.step {t = g} {e = e} {es = es} m r) = by-case (begins-by e o m) (λ c. life c n r)
+  where
+    by-case : Begun t i h e g → (g .member .opened ≡ false → Life t i es h′) → Life t i (e ∷ es) h′
+    by-case (Begun.stays q a s) ih =
+        let z = ih (ap (λ y. y .member .opened) q ∙ o) in
+        record {
+          masses = z .masses;
+          fits = z .fits;
+          once = ap (λ l. l ++ collect openingOf es) a ∙ z .once;
+          run = subst (λ l. Run Moves (record { kept = z .masses; balance = openBalance (z .masses) (t .scale) }) (l ++ collect (stepOf t i) es) (standingOf t h′)) (sym s) (z .run);
+        }
+    by-case (Begun.begins kept w q a b) ih =
+        let z = lives-on (ap (λ y. y .member .opened) q) r in
+        record {
+          masses = kept;
+          fits = w;
+          once = (λ y. a y ++ z .0 y);
+          run =
+              subst (λ l. Run Moves (record { kept = kept; balance = openBalance kept (t .scale) }) (l ++ collect (stepOf t i) es) (standingOf t h′)) (sym b)
+              (subst (λ s. Run Moves s (collect (stepOf t i) es) (standingOf t h′)) (ap (standingOf t) q) (z .1));
+        }
+
+-- a member that is never opened has no opening and no Step
+none-yet : {t : Terms} {i : ℕ} {h h′ : Held} {es : List MemberEvent} → h .member .opened ≡ false → h′ .member .opened ≡ false → Run (MemberMoves t i) h es h′ → (collect openingOf es ≡ []) × (collect (stepOf t i) es ≡ [])
+unfolding collect
+none-yet o n Run.done = (refl, refl)
+none-yet {t} {i} {h} {h′} o n (Run.step {t = g} {e = e} {es = es} m r) = by-case (begins-by e o m) (λ c. none-yet c n r)
+  where
+    by-case : Begun t i h e g → (g .member .opened ≡ false → (collect openingOf es ≡ []) × (collect (stepOf t i) es ≡ [])) → (openingOf e ++ collect openingOf es ≡ []) × (stepOf t i e ++ collect (stepOf t i) es ≡ [])
+    by-case (Begun.stays q a s) ih = let z = ih (ap (λ y. y .member .opened) q ∙ o) in (λ y. a y ++ z .0 y, λ y. s y ++ z .1 y)
+    by-case (Begun.begins kept w q a b) ih = absurd (clash (lives-end (ap (λ y. y .member .opened) q) r) n)
+
+-- demand 3 of it
+life-account : {t : Terms} {i : ℕ} {es : List MemberEvent} {end : Held} (z : Life t i es end) → Account (openBalance (z .masses) (t .scale)) (collect (stepOf t i) es) (standingOf t end)
+unfolding openTells
+life-account {t} {i} {es} {end} z =
+    let b = openBalance (z .masses) (t .scale) in
+    demand3 (z .masses) (t .scale) (Accepted b) b (record { answers = ap (λ w. answered w b) (sym (z .fits)) }) refl
+    (collect (stepOf t i) es) (standingOf t end) (z .run)
+
+-- ---- every history
+
+-- a member that was not open and is at the end keeps its whole account
+pub member-account :
+    (i : ℕ) {s t : FamilyStanding} {es : List FamilyEvent} → Eight (s .family) → memberAt (s .family) i .opened ≡ false → Run FamilyMoves s es t
+    → memberAt (t .family) i .opened ≡ true → MemberAccount i es t
+member-account i {s} {t} {es} eight o r n =
+    let z = life o n (run-own i eight r) in
+    let k = run-steady r .terms in
+    record {
+      opening = openBalance (z .masses) (s .family .scale);
+      once = z .once;
+      account =
+          subst (λ u. Account (openBalance (z .masses) (s .family .scale)) (stepsOf u i es) (record { kept = t .kept i; balance = record { total = memberAt (t .family) i .total; scale = u .scale } })) (sym k)
+          (life-account z);
+    }
+
+-- one that is not open at the end has no opening and no Step
+pub member-none :
+    (i : ℕ) {s t : FamilyStanding} {es : List FamilyEvent} → Eight (s .family) → memberAt (s .family) i .opened ≡ false → Run FamilyMoves s es t
+    → memberAt (t .family) i .opened ≡ false → (openingsOf i es ≡ []) × (stepsOf (terms (t .family)) i es ≡ [])
+member-none i {s} {t} {es} eight o r n =
+    let z = none-yet o n (run-own i eight r) in
+    (z .0, subst (λ u. stepsOf u i es ≡ []) (sym (run-steady r .terms)) (z .1))

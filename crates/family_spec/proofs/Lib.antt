@@ -1,0 +1,10 @@
+-- The laws of families, and the theorems about every history.
+pub mod RuleLaws
+pub mod AnswerLaws
+pub mod FamilyLaws
+pub mod MemberLaws
+pub mod AccountLaws
+pub mod CapLaws
+pub mod IsolationLaws
+pub mod Histories
+pub mod ExampleLaws

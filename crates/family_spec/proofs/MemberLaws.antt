@@ -1,0 +1,178 @@
+-- A family's history, seen from one member, is that member's history: its own calls do what the definitions say of it, and the calls of the
+-- others leave it alone. Assumes nothing.
+use mathlib.Core.Path.{_≡_, refl, sym, _∙_, ap, ap₂, subst}
+use mathlib.Core.Logic.{_≢_}
+use mathlib.Core.Bool.{Bool, true, false, cond}
+use mathlib.Core.List.{List, [], _++_, append-nil}
+use Prim.Native.Nat.{ℕ, _≤_}
+use lib.Dec.{eqb}
+use lib.IntN.{ℤ}
+use borrow.Author.Tests.{eqb-true, eq-eqb}
+use Rattle.numbers.specs.declared.Checked.{Checked}
+use Rattle.numbers.specs.declared.Checked.the-variants.{Pass, Fail}
+use Rattle.numbers.specs.Lists.{sum}
+use Rattle.numbers.specs.Checks.{Answered, accepted, refused, answered, after}
+use Rattle.numbers.proofs.TestLaws.{not-so, clash}
+use Rattle.numbers.proofs.PartLaws.{part-whole}
+use Rattle.qlt_spec.specs.Field.{field}
+use Rattle.qlt_spec.specs.Masses.{treeMasses}
+use Rattle.kept_spec.specs.declared.Balance.{Balance}
+use Rattle.kept_spec.specs.Open.{openBalance, openTells}
+use Rattle.kept_spec.specs.Step.{StepCall, newTotal, StepResult, stepResult, stepTells}
+use Rattle.kept_spec.specs.Run.{Run, collect}
+use Rattle.kept_spec.specs.Account.{Accepts}
+use Rattle.kept_spec.proofs.RunLaws.{run-append}
+use Rattle.family_spec.specs.declared.Family.{Family}
+use Rattle.family_spec.specs.declared.FamilyOpened.{FamilyOpened}
+use Rattle.family_spec.specs.declared.FamilyStepped.{FamilyStepped}
+use Rattle.family_spec.specs.Family.{openWith, memberAt, room, Terms, terms}
+use Rattle.family_spec.specs.Member.{StepInputs, callOf}
+use Rattle.family_spec.specs.Operations.{openMemberVerdict, OpenMemberContract, stepMemberVerdict, StepMemberContract}
+use Rattle.family_spec.specs.History.{FamilyEvent, FamilyStanding, place, placeIf, Lends, FamilyMoves, only, MemberEvent, ownOf, callsOf, Held, held, tellsBy, holdsBy, opened, stepped, MemberMoves}
+use Rattle.family_spec.proofs.RuleLaws.{opening-accepts, stepping-accepts}
+use Rattle.family_spec.proofs.FamilyLaws.{Eight, put-here, put-other, Steady, put-steady}
+
+-- ---- numbers of members
+
+same-number : (i : ℕ) → eqb i i ≡ true
+same-number i = eq-eqb i i refl
+
+other-number : (i j : ℕ) → eqb j i ≡ false → i ≢ j
+other-number i j e p = clash (eq-eqb j i (sym p)) e
+
+other-way : (i j : ℕ) → eqb j i ≡ false → eqb i j ≡ false
+other-way i j e = not-so (eqb i j) (λ t. clash (eq-eqb j i (sym (eqb-true i j t))) e)
+
+-- an accepted call is of one of the 8
+pub open-number : (f : Family) (i : ℕ) (kept : List ℕ) (k : ℕ) → openMemberVerdict f i kept k ≡ Pass → i ≤ 7
+open-number f i kept k e = opening-accepts (terms f) i (memberAt f i) (room f i) kept k .0 e .number
+
+pub step-number : (f : Family) (i : ℕ) (x : StepInputs) → stepMemberVerdict f i x ≡ Pass → i ≤ 7
+step-number f i x e = stepping-accepts (terms f) i (memberAt f i) (room f i) x .0 e .number
+
+-- ---- the members' masses
+
+place-here : (all : ℕ → List ℕ) (i : ℕ) (masses : List ℕ) → place all i masses i ≡ masses
+place-here all i masses = ap (λ b. cond b masses (all i)) (same-number i)
+
+place-other : (all : ℕ → List ℕ) (i j : ℕ) (masses : List ℕ) → eqb i j ≡ false → place all i masses j ≡ all j
+place-other all i j masses e = ap (λ b. cond b masses (all j)) (other-way j i e)
+
+placeIf-here : (all : ℕ → List ℕ) (i : ℕ) (masses : List ℕ) (v : Checked) (b : Balance) → placeIf (answered v b) all i masses i ≡ after v masses (all i)
+placeIf-here all i masses Pass b = place-here all i masses
+placeIf-here all i masses (Fail n p) b = refl
+
+placeIf-other : (all : ℕ → List ℕ) (i j : ℕ) (masses : List ℕ) (a : Answered Balance) → eqb i j ≡ false → placeIf a all i masses j ≡ all j
+placeIf-other all i j masses (accepted b) e = place-other all i j masses e
+placeIf-other all i j masses (refused n p) e = refl
+
+-- what a step leaves in its member's place, and in the others': a part that was lent and left as it was, or the whole
+lends-here :
+    {all all′ : ℕ → List ℕ} {i : ℕ} {given left : List ℕ} (v : Checked) (r : StepResult) (masses : List ℕ)
+    → Lends all i given (answered v r) left all′ → left ≡ after v masses given → all′ i ≡ after v masses (all i)
+lends-here {all} {i = i} {given = given} {left = left} Pass r masses (Lends.own before rest part whole) p =
+    let w = part-whole before given rest (whole tt ∙ part) in
+    place-here all i (before ++ (left ++ rest)) ∙ ap₂ (λ a b. a ++ (left ++ b)) (w .0) (w .1) ∙ append-nil left ∙ p
+lends-here {all} {i = i} {given = given} {left = left} (Fail n q) r masses (Lends.own before rest part whole) p =
+    place-here all i (before ++ (left ++ rest)) ∙ ap (λ l. before ++ (l ++ rest)) p ∙ sym part
+lends-here Pass r masses (Lends.elsewhere h) p = absurd (h tt)
+lends-here (Fail n q) r masses (Lends.elsewhere h) p = refl
+
+lends-other :
+    {all all′ : ℕ → List ℕ} {i : ℕ} {given left : List ℕ} {told : Answered StepResult} (j : ℕ) → eqb i j ≡ false → Lends all i given told left all′
+    → all′ j ≡ all j
+lends-other {all} {i = i} {left = left} j e (Lends.own before rest part whole) = place-other all i j (before ++ (left ++ rest)) e
+lends-other j e (Lends.elsewhere h) = refl
+
+lends-own : {all all′ : ℕ → List ℕ} {i : ℕ} {given left : List ℕ} {told : Answered StepResult} → Lends all i given told left all′ → Accepts told → given ≡ all i
+lends-own (Lends.own before rest part whole) a = whole a
+lends-own (Lends.elsewhere h) a = absurd (h a)
+
+-- ---- one call
+
+held-path : {h h′ : Held} → h .member ≡ h′ .member → h .kept ≡ h′ .kept → h ≡ h′
+held-path p q = λ x. record { member = p x; kept = q x }
+
+-- member i is called, or another
+own-case : {t : Terms} {i : ℕ} {h h′ : Held} {e : MemberEvent} (b : Bool) → (b ≡ true → MemberMoves t i h e h′) → (b ≡ false → h′ ≡ h) → Run (MemberMoves t i) h (only b e) h′
+own-case true m o = Run.step (m refl) Run.done
+own-case {t} {i} {h} false m o = subst (λ z. Run (MemberMoves t i) h [] z) (sym (o refl)) Run.done
+
+-- opening
+opens-own :
+    (s : FamilyStanding) {i : ℕ} {kept : List ℕ} {k : ℕ} {r : FamilyOpened} → Eight (s .family) → OpenMemberContract (s .family) i kept k r
+    → MemberMoves (terms (s .family)) i (held s i) (MemberEvent.opens (memberAt (s .family) i) (room (s .family) i) kept k (r .answer))
+    (held (record { family = r .family; kept = placeIf (openTells (r .answer)) (s .kept) i kept }) i)
+unfolding tellsBy holdsBy
+opens-own s {i} {kept} {k} {r} eight p =
+    record {
+      given = refl;
+      tells = ap opened (p .tells .answers);
+      holds =
+          held-path
+          (ap (λ g. memberAt g i) (p .gives) ∙ put-here (s .family) eight i (openWith (sum kept)) v (λ e. open-number (s .family) i kept k e))
+          (ap (λ a. placeIf a (s .kept) i kept i) (p .tells .answers) ∙ placeIf-here (s .kept) i kept v (openBalance kept k));
+      lent = tt;
+    }
+  where
+    v : Checked
+    v = openMemberVerdict (s .family) i kept k
+
+-- a step
+steps-own :
+    (s : FamilyStanding) {i : ℕ} {x : StepInputs} {r : FamilyStepped} {kept : List ℕ} {scratch : List ℤ} {all : ℕ → List ℕ} → Eight (s .family)
+    → StepMemberContract (s .family) i x r kept scratch → Lends (s .kept) i (x .kept) (stepTells (r .answer)) kept all
+    → MemberMoves (terms (s .family)) i (held s i) (MemberEvent.steps (memberAt (s .family) i) (room (s .family) i) x (r .answer) kept scratch)
+    (held (record { family = r .family; kept = all }) i)
+unfolding tellsBy holdsBy
+steps-own s {i} {x} {r} {kept} {all = all} eight p q =
+    record {
+      given = refl;
+      tells = λ z. stepped (p .tells .answers z) (p .tells .leaves .writes z) (p .tells .leaves .clears z);
+      holds =
+          held-path
+          (ap (λ g. memberAt g i) (p .gives) ∙ put-here (s .family) eight i (openWith (newTotal c)) v (λ e. step-number (s .family) i x e))
+          (lends-here v (stepResult c) (treeMasses (field (x .lists)) (newTotal c)) (subst (λ a. Lends (s .kept) i (x .kept) a kept all) (p .tells .answers) q) (p .tells .leaves .writes));
+      lent = lends-own q;
+    }
+  where
+    v : Checked
+    v = stepMemberVerdict (s .family) i x
+
+    c : StepCall
+    c = callOf (terms (s .family)) (memberAt (s .family) i) x
+
+-- ---- every call
+
+pub moves-steady : {s t : FamilyStanding} {e : FamilyEvent} → FamilyMoves s e t → Steady (s .family) (t .family)
+moves-steady {s} (FamilyMoves.opens {i = i} {kept} {k} p) =
+    subst (Steady (s .family)) (sym (p .gives)) (put-steady (s .family) i (openWith (sum kept)) (openMemberVerdict (s .family) i kept k))
+moves-steady {s} (FamilyMoves.steps {i = i} {x} p q) =
+    subst (Steady (s .family)) (sym (p .gives))
+    (put-steady (s .family) i (openWith (newTotal (callOf (terms (s .family)) (memberAt (s .family) i) x))) (stepMemberVerdict (s .family) i x))
+
+-- a call of the family is a call of the member that it names, and leaves every other member as it was
+pub moves-own : (i : ℕ) {s t : FamilyStanding} {e : FamilyEvent} → Eight (s .family) → FamilyMoves s e t → Run (MemberMoves (terms (s .family)) i) (held s i) (ownOf i e) (held t i)
+moves-own i {s} h (FamilyMoves.opens {i = j} {kept} {k} {r} p) =
+    own-case (eqb j i)
+    (λ b. subst (λ n. MemberMoves (terms (s .family)) n (held s n) (MemberEvent.opens (memberAt (s .family) j) (room (s .family) j) kept k (r .answer)) (held (record { family = r .family; kept = placeIf (openTells (r .answer)) (s .kept) j kept }) n)) (eqb-true j i b) (opens-own s h p))
+    (λ b. held-path (ap (λ g. memberAt g i) (p .gives) ∙ put-other (s .family) h j (openWith (sum kept)) (openMemberVerdict (s .family) j kept k) i (other-number i j b)) (placeIf-other (s .kept) j i kept (openTells (r .answer)) b))
+moves-own i {s} h (FamilyMoves.steps {i = j} {x} {r} {kept} {scratch} {all} p q) =
+    own-case (eqb j i)
+    (λ b. subst (λ n. MemberMoves (terms (s .family)) n (held s n) (MemberEvent.steps (memberAt (s .family) j) (room (s .family) j) x (r .answer) kept scratch) (held (record { family = r .family; kept = all }) n)) (eqb-true j i b) (steps-own s h p q))
+    (λ b. held-path (ap (λ g. memberAt g i) (p .gives) ∙ put-other (s .family) h j (openWith (newTotal (callOf (terms (s .family)) (memberAt (s .family) j) x))) (stepMemberVerdict (s .family) j x) i (other-number i j b)) (lends-other i b q))
+
+-- every history of the family is, for each member, a history of its own
+pub run-own : (i : ℕ) {s t : FamilyStanding} {es : List FamilyEvent} → Eight (s .family) → Run FamilyMoves s es t → Run (MemberMoves (terms (s .family)) i) (held s i) (callsOf i es) (held t i)
+unfolding collect
+run-own i h Run.done = Run.done
+run-own i {s} {t} h (Run.step {t = u} {es = es} m r) =
+    run-append (moves-own i h m) (subst (λ z. Run (MemberMoves z i) (held u i) (callsOf i es) (held t i)) (moves-steady m .terms) (run-own i (moves-steady m .size ∙ h) r))
+
+-- cap, scale, cells and the number of members stay
+pub run-steady : {s t : FamilyStanding} {es : List FamilyEvent} → Run FamilyMoves s es t → Steady (s .family) (t .family)
+run-steady Run.done = record { size = refl; cap = refl; terms = refl }
+run-steady (Run.step m r) =
+    let a = moves-steady m in
+    let b = run-steady r in
+    record { size = b .size ∙ a .size; cap = b .cap ∙ a .cap; terms = b .terms ∙ a .terms }

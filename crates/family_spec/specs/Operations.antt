@@ -1,0 +1,62 @@
+-- The operations of a family: what each answers, the family that it gives, and the lists that it leaves. A refused call gives the family back
+-- as it came and writes no list. Assumes nothing.
+use mathlib.Core.Path.{_≡_}
+use mathlib.Core.List.{List, [], _∷_}
+use Prim.Native.Nat.{ℕ}
+use lib.IntN.{ℤ}
+use Rattle.numbers.specs.declared.Checked.{Checked}
+use Rattle.numbers.specs.Lists.{sum}
+use Rattle.numbers.specs.Checks.{Answered, accepted, refused, answered, after, first, checkCount, checkScale}
+use Rattle.kept_spec.specs.Open.{OpenBy}
+use Rattle.kept_spec.specs.Step.{newTotal, StepResult, StepBy}
+use Rattle.family_spec.specs.declared.Family.{Family}
+use Rattle.family_spec.specs.declared.Started.{Started}
+use Rattle.family_spec.specs.declared.Started.the-variants.{Done, Refused}
+use Rattle.family_spec.specs.declared.FamilyStarted.{FamilyStarted}
+use Rattle.family_spec.specs.declared.FamilyOpened.{FamilyOpened}
+use Rattle.family_spec.specs.declared.FamilyStepped.{FamilyStepped}
+use Rattle.family_spec.specs.Family.{openWith, memberAt, put, begun, room, terms}
+use Rattle.family_spec.specs.Member.{openingVerdict, StepInputs, callOf, steppingVerdict}
+
+-- ---- start: 1; 9
+
+unfoldable pub startVerdict : ℕ → ℕ → Checked
+startVerdict scale cells = first (checkCount cells ∷ checkScale scale ∷ [])
+
+-- what an answer tells, and the answer that tells it
+unfoldable pub startTells : Started → Answered Unit
+startTells Done = accepted tt
+startTells (Refused number place) = refused number place
+
+abbrev pub startAnswer : Answered Unit → Started
+startAnswer (accepted u) = Done
+startAnswer (refused number place) = Refused number place
+
+-- a refused start gives a family without cells
+pub record StartContract (cap scale cells : ℕ) (r : FamilyStarted) : Type 0 where
+  pub answers : startTells (r .answer) ≡ answered (startVerdict scale cells) tt
+  pub gives : r .family ≡ after (startVerdict scale cells) (begun cap scale cells) (begun 0 0 0)
+
+-- ---- open, of member i at the scale k
+
+abbrev pub openMemberVerdict : Family → ℕ → List ℕ → ℕ → Checked
+openMemberVerdict f i kept k = openingVerdict (terms f) i (memberAt f i) (room f i) kept k
+
+pub record OpenMemberContract (f : Family) (i : ℕ) (kept : List ℕ) (k : ℕ) (r : FamilyOpened) : Type 0 where
+  pub tells : OpenBy (openMemberVerdict f i kept k) kept k (r .answer)
+  pub gives : r .family ≡ after (openMemberVerdict f i kept k) (put f i (openWith (sum kept))) f
+
+-- ---- step, of member i
+
+-- the family after a step that told this: it takes over the total of an accepted one
+abbrev pub taken : Family → ℕ → Answered StepResult → Family
+taken f i (accepted r) = put f i (openWith (r .balance .total))
+taken f i (refused number place) = f
+
+abbrev pub stepMemberVerdict : Family → ℕ → StepInputs → Checked
+stepMemberVerdict f i x = steppingVerdict (terms f) i (memberAt f i) (room f i) x
+
+-- it answers and leaves what the Step of the member's balance does, by the family's verdict
+pub record StepMemberContract (f : Family) (i : ℕ) (x : StepInputs) (r : FamilyStepped) (kept : List ℕ) (scratch : List ℤ) : Type 0 where
+  pub tells : StepBy (stepMemberVerdict f i x) (callOf (terms f) (memberAt f i) x) (r .answer) kept scratch
+  pub gives : r .family ≡ after (stepMemberVerdict f i x) (put f i (openWith (newTotal (callOf (terms f) (memberAt f i) x)))) f
