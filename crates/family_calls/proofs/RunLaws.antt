@@ -15,7 +15,7 @@ use Rattle.kept_spec.proofs.RunLaws.{run-through}
 use Rattle.kept_spec.proofs.OpenLaws.{open-answer-tells}
 use Rattle.kept_spec.proofs.StepLaws.{answer-tells}
 use Rattle.call_values.specs.Values.{openValues, stepValues}
-use Rattle.family_spec.specs.Family.{totals, terms}
+use Rattle.family_spec.specs.Family.{closed, totals, terms}
 use Rattle.family_spec.specs.Member.{StepInputs}
 use Rattle.family_spec.specs.History.{placeIf, Lends, FamilyMoves, callsOf, view, told, held, openingsOf, stepsOf}
 use Rattle.family_spec.specs.Claims.{Begins, IsOpen, MemberAccount}
@@ -101,10 +101,10 @@ module _ {cap scale n : ℕ} {family family′ : List ℕ} (h : familyEntries �
     pub call-accounts : (i : ℕ) → IsOpen (standingIn end) i ≡ true → MemberAccount i (collect eventsOf es) (standingIn end)
     call-accounts i o = accounts call-begins run i o
 
-    -- one that is not has no opening and no Step
+    -- one that is not has no opening and no Step, a total of 0 and no masses
     pub call-unopened :
         (i : ℕ) → IsOpen (standingIn end) i ≡ false
-        → (openingsOf i (collect eventsOf es) ≡ []) × (stepsOf (terms (familyIn (end .family))) i (collect eventsOf es) ≡ [])
+        → (openingsOf i (collect eventsOf es) ≡ []) × (stepsOf (terms (familyIn (end .family))) i (collect eventsOf es) ≡ []) × (held (standingIn end) i ≡ record { member = closed; kept = [] })
     call-unopened i o = unopened call-begins run i o
 
     -- the totals do not pass the cap in sum

@@ -32,7 +32,7 @@ use Rattle.kept_spec.proofs.Demand3.{demand3, always-moves}
 use Rattle.family_spec.specs.declared.Member.{Member}
 use Rattle.family_spec.specs.Family.{openWith, memberAt, Terms, terms}
 use Rattle.family_spec.specs.Member.{openingVerdict, StepInputs, callOf, steppingVerdict}
-use Rattle.family_spec.specs.History.{FamilyEvent, FamilyStanding, FamilyMoves, only, MemberEvent, stepping, opened, stepped, Held, tellsBy, holdsBy, MemberMoves, balanceTold, openingOf, same, stepOf, openingsOf, stepsOf}
+use Rattle.family_spec.specs.History.{FamilyEvent, FamilyStanding, FamilyMoves, only, MemberEvent, stepping, opened, stepped, Held, held, tellsBy, holdsBy, MemberMoves, balanceTold, openingOf, same, stepOf, openingsOf, stepsOf}
 use Rattle.family_spec.specs.Claims.{MemberAccount}
 use Rattle.family_spec.proofs.RuleLaws.{opened-decides, opening-opens, opening-accepts, SteppingOwn, stepping-steps, stepping-refused}
 use Rattle.family_spec.proofs.FamilyLaws.{Eight}
@@ -318,14 +318,17 @@ life {t} {i} {h} {h′} o n (Run.step {t = g} {e = e} {es = es} m r) = by-case (
               (subst (λ s. Run Moves s (collect (stepOf t i) es) (standingOf t h′)) (ap (standingOf t) q) (z .1));
         }
 
--- a member that is never opened has no opening and no Step
-none-yet : {t : Terms} {i : ℕ} {h h′ : Held} {es : List MemberEvent} → h .member .opened ≡ false → h′ .member .opened ≡ false → Run (MemberMoves t i) h es h′ → (collect openingOf es ≡ []) × (collect (stepOf t i) es ≡ [])
+-- a member that is never opened has no opening and no Step, and holds what it held
+abbrev Nothing : Terms → ℕ → Held → List MemberEvent → Held → Type 0
+Nothing t i h es h′ = (collect openingOf es ≡ []) × (collect (stepOf t i) es ≡ []) × (h′ ≡ h)
+
+none-yet : {t : Terms} {i : ℕ} {h h′ : Held} {es : List MemberEvent} → h .member .opened ≡ false → h′ .member .opened ≡ false → Run (MemberMoves t i) h es h′ → Nothing t i h es h′
 unfolding collect
-none-yet o n Run.done = (refl, refl)
+none-yet o n Run.done = (refl, refl, refl)
 none-yet {t} {i} {h} {h′} o n (Run.step {t = g} {e = e} {es = es} m r) = by-case (begins-by e o m) (λ c. none-yet c n r)
   where
-    by-case : Begun t i h e g → (g .member .opened ≡ false → (collect openingOf es ≡ []) × (collect (stepOf t i) es ≡ [])) → (openingOf e ++ collect openingOf es ≡ []) × (stepOf t i e ++ collect (stepOf t i) es ≡ [])
-    by-case (Begun.stays q a s) ih = let z = ih (ap (λ y. y .member .opened) q ∙ o) in (λ y. a y ++ z .0 y, λ y. s y ++ z .1 y)
+    by-case : Begun t i h e g → (g .member .opened ≡ false → Nothing t i g es h′) → (openingOf e ++ collect openingOf es ≡ []) × (stepOf t i e ++ collect (stepOf t i) es ≡ []) × (h′ ≡ h)
+    by-case (Begun.stays q a s) ih = let z = ih (ap (λ y. y .member .opened) q ∙ o) in (λ y. a y ++ z .0 y, λ y. s y ++ z .1 y, z .2 ∙ q)
     by-case (Begun.begins kept w q a b) ih = absurd (clash (lives-end (ap (λ y. y .member .opened) q) r) n)
 
 -- demand 3 of it
@@ -353,10 +356,10 @@ member-account i {s} {t} {es} eight o r n =
           (life-account z);
     }
 
--- one that is not open at the end has no opening and no Step
+-- one that is not open at the end has no opening and no Step, and holds what it held
 pub member-none :
     (i : ℕ) {s t : FamilyStanding} {es : List FamilyEvent} → Eight (s .family) → memberAt (s .family) i .opened ≡ false → Run FamilyMoves s es t
-    → memberAt (t .family) i .opened ≡ false → (openingsOf i es ≡ []) × (stepsOf (terms (t .family)) i es ≡ [])
+    → memberAt (t .family) i .opened ≡ false → (openingsOf i es ≡ []) × (stepsOf (terms (t .family)) i es ≡ []) × (held t i ≡ held s i)
 member-none i {s} {t} {es} eight o r n =
     let z = none-yet o n (run-own i eight r) in
-    (z .0, subst (λ u. stepsOf u i es ≡ []) (sym (run-steady r .terms)) (z .1))
+    (z .0, subst (λ u. stepsOf u i es ≡ []) (sym (run-steady r .terms)) (z .1), z .2)

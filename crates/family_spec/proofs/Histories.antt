@@ -53,9 +53,11 @@ module _ {cap scale cells : ℕ} {s : FamilyStanding} (b : Begins cap scale cell
     pub accounts : (i : ℕ) → IsOpen end i ≡ true → MemberAccount i es end
     accounts i o = member-account i start-eight (ap (λ m. m .opened) (start-closed i)) r o
 
-    -- one that is not has no opening and no Step
-    pub unopened : (i : ℕ) → IsOpen end i ≡ false → (openingsOf i es ≡ []) × (stepsOf (terms (end .family)) i es ≡ [])
-    unopened i o = member-none i start-eight (ap (λ m. m .opened) (start-closed i)) r o
+    -- one that is not has no opening and no Step, a total of 0 and no masses
+    pub unopened : (i : ℕ) → IsOpen end i ≡ false → (openingsOf i es ≡ []) × (stepsOf (terms (end .family)) i es ≡ []) × (held end i ≡ record { member = closed; kept = [] })
+    unopened i o =
+        let z = member-none i start-eight (ap (λ m. m .opened) (start-closed i)) r o in
+        (z .0, z .1, z .2 ∙ (λ y. record { member = start-closed i y; kept = b .empty i y }))
 
     -- the totals do not pass the cap in sum
     pub capped : totals (end .family) ≤ cap
