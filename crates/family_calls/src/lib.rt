@@ -4,9 +4,9 @@
 ghost use Rattle.qlt_spec.specs.Field.{lists};
 ghost use Rattle.family_spec.specs.Member.{stepInputs};
 ghost use Rattle.family_calls.specs.Calls.{FamilyStartReturns, FamilyOpenReturns, FamilyStepReturns};
-use call_values::put_balance;
-use call_values::put_repair;
-use call_values::refusal;
+use call_values::values::put_balance;
+use call_values::values::put_repair;
+use call_values::values::refusal;
 use family::open_member;
 use family::start_family;
 use family::step_member;

@@ -9,7 +9,7 @@ ghost use Rattle.family_spec.specs.Family.{memberAt};
 ghost use Rattle.family_spec.specs.Member.{checkOpened, checkSameCells};
 ghost use Rattle.family_calls.specs.List.{familyEntries, familyIn};
 use crate::list::read_family;
-use call_values::step_shape;
+use call_values::values::step_shape;
 use family::verdict::check_stepping;
 use numbers::Checked;
 use numbers::checks::check_long;

@@ -12,6 +12,10 @@ ghost use Rattle.legzhuro_c.specs.Calls.{ReconstructReturns, SplitReturn
 ghost use Rattle.legzhuro_c.specs.FileCalls.{WriteFieldReturns, ReadAnswerReturns};
 use bounds_spec::Bounded;
 use caas_spec::SplitAnswer;
+use call_values::values::put_balance;
+use call_values::values::put_repair;
+use call_values::values::refusal;
+use call_values::values::step_shape;
 use doubles_spec::CellDoubles;
 use doubles_spec::Exported;
 use doubles_spec::Imported;
@@ -74,11 +78,11 @@ pub extern "C" fn legzhuro_split(
 {
     let shape = returns::split_shape(targets.len(), deficit.len());
     if let Checked::Fail { number, place } = shape {
-        return call_values::refusal(number, place);
+        return refusal(number, place);
     }
     match split::split(targets, lows, highs, weights, total, masses) {
         SplitAnswer::Done { deficit: d } => returns::put_deficit(d, deficit),
-        SplitAnswer::Refused { number, place } => call_values::refusal(number, place),
+        SplitAnswer::Refused { number, place } => refusal(number, place),
     }
 }
 
@@ -91,8 +95,8 @@ pub extern "C" fn legzhuro_open(kept: &[u32], scale: u32, answer: &mut [u64]) ->
         return 3;
     }
     match kept::open(kept, scale) {
-        Opened::Accepted(balance) => call_values::put_balance(balance, answer),
-        Opened::Refused { number, place } => call_values::refusal(number, place),
+        Opened::Accepted(balance) => put_balance(balance, answer),
+        Opened::Refused { number, place } => refusal(number, place),
     }
 }
 
@@ -123,9 +127,9 @@ pub extern "C" fn legzhuro_step(
         (now (scratch .entry)))
         (now (answer .entry)) r (now (kept .exit)) (now (scratch .exit)) (now (answer .exit)) ⌝ }
 {
-    let shape = call_values::step_shape(targets.len(), parents.len(), answer.len());
+    let shape = step_shape(targets.len(), parents.len(), answer.len());
     if let Checked::Fail { number, place } = shape {
-        return call_values::refusal(number, place);
+        return refusal(number, place);
     }
     let stepped = kept::step(
         Balance {
@@ -145,8 +149,8 @@ pub extern "C" fn legzhuro_step(
         scratch,
     );
     match stepped {
-        Stepped::Accepted { repair, balance: _ } => call_values::put_repair(repair, answer),
-        Stepped::Refused { number, place } => call_values::refusal(number, place),
+        Stepped::Accepted { repair, balance: _ } => put_repair(repair, answer),
+        Stepped::Refused { number, place } => refusal(number, place),
     }
 }
 
@@ -178,7 +182,7 @@ pub extern "C" fn legzhuro_bounds(
     );
     match bounded {
         Bounded::Done => 0,
-        Bounded::Refused { number, place } => call_values::refusal(number, place),
+        Bounded::Refused { number, place } => refusal(number, place),
     }
 }
 
@@ -214,7 +218,7 @@ pub extern "C" fn legzhuro_import(
             number,
             field,
             double: _,
-        } => call_values::refusal(number, field),
+        } => refusal(number, field),
     }
 }
 
@@ -228,7 +232,7 @@ pub extern "C" fn legzhuro_export(mass: u32, scale: u32, value: &mut [f64]) -> u
     }
     match doubles::export(mass, scale) {
         Exported::Double(x) => returns::put_double(x, value),
-        Exported::Refused { number, place } => call_values::refusal(number, place),
+        Exported::Refused { number, place } => refusal(number, place),
     }
 }
 
@@ -242,7 +246,7 @@ pub extern "C" fn legzhuro_export_single(mass: u32, scale: u32, value: &mut [f32
     }
     match doubles::export_single(mass, scale) {
         SingleExported::Single(x) => returns::put_single(x, value),
-        SingleExported::Refused { number, place } => call_values::refusal(number, place),
+        SingleExported::Refused { number, place } => refusal(number, place),
     }
 }
 
@@ -283,7 +287,7 @@ pub extern "C" fn legzhuro_write_field(
     );
     match written {
         FieldWritten::Bytes(_) => 0,
-        FieldWritten::Refused { number, place } => call_values::refusal(number, place),
+        FieldWritten::Refused { number, place } => refusal(number, place),
     }
 }
 
@@ -297,7 +301,7 @@ pub extern "C" fn legzhuro_read_answer(file: &[u8], masses: &mut [u32], answer: 
     let room = returns::answer_room(masses.len(), answer.len());
     match answer_file::read_answer(file, &mut masses[0..room]) {
         AnswerRead::Read { cells, repair } => returns::put_answer(cells, repair, answer),
-        AnswerRead::Refused { number, place } => call_values::refusal(number, place),
+        AnswerRead::Refused { number, place } => refusal(number, place),
     }
 }
 

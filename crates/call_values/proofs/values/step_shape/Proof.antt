@@ -1,10 +1,10 @@
--- `call_values::step_shape` meets its contract: the three checks in their order.
+-- `call_values::values::step_shape` meets its contract: the three checks in their order.
 use mathlib.Core.Path.{sym, _∙_, ap₂}
 use Rattle.numbers.specs.Checks.{both}
 use Rattle.numbers.proofs.CheckLaws.{both-pass}
 use borrow.Author.Needs.{needs}
-use Rattle.call_values.proofs.step_shape.Statement.{statement}
-use Rattle.call_values.proofs.step_shape.Tie as tie
+use Rattle.call_values.proofs.values.step_shape.Statement.{statement}
+use Rattle.call_values.proofs.values.step_shape.Tie as tie
 
 check-count-requires : tie.Need-check-count-requires
 check-count-requires c κs = search needs

@@ -1,8 +1,8 @@
--- `call_values::refusal` meets its contract: a number and a place of 32 bits each add up within 64.
+-- `call_values::values::refusal` meets its contract: a number and a place of 32 bits each add up within 64.
 use mathlib.Core.Path.{refl}
 use borrow.Author.Needs.{needs}
-use Rattle.call_values.proofs.refusal.Statement.{statement}
-use Rattle.call_values.proofs.refusal.Tie as tie
+use Rattle.call_values.proofs.values.refusal.Statement.{statement}
+use Rattle.call_values.proofs.values.refusal.Tie as tie
 
 mul-result : tie.Need-mul-result
 mul-result c = search needs

@@ -1,12 +1,12 @@
--- `call_values::put_repair` meets its contract: four stores in a row are one written part.
+-- `call_values::values::put_repair` meets its contract: four stores in a row are one written part.
 use mathlib.Core.Path.{refl}
 use native.Mathlib.Omega.{arith}
 use lib.ListN.{length-set}
 use Rattle.numbers.proofs.PartLaws.{sets-written}
 use Rattle.call_values.specs.Values.{repairWords}
 use borrow.Author.Needs.{needs}
-use Rattle.call_values.proofs.put_repair.Statement.{statement}
-use Rattle.call_values.proofs.put_repair.Tie as tie
+use Rattle.call_values.proofs.values.put_repair.Statement.{statement}
+use Rattle.call_values.proofs.values.put_repair.Tie as tie
 
 cast-answer : tie.Need-cast-answer
 cast-answer c = search needs

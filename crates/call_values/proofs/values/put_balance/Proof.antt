@@ -1,12 +1,12 @@
--- `call_values::put_balance` meets its contract: two stores in a row are one written part.
+-- `call_values::values::put_balance` meets its contract: two stores in a row are one written part.
 use mathlib.Core.Path.{refl}
 use native.Mathlib.Omega.{arith}
 use lib.ListN.{length-set}
 use Rattle.numbers.proofs.PartLaws.{sets-written}
 use Rattle.call_values.specs.Values.{balanceWords}
 use borrow.Author.Needs.{needs}
-use Rattle.call_values.proofs.put_balance.Statement.{statement}
-use Rattle.call_values.proofs.put_balance.Tie as tie
+use Rattle.call_values.proofs.values.put_balance.Statement.{statement}
+use Rattle.call_values.proofs.values.put_balance.Tie as tie
 
 cast-answer : tie.Need-cast-answer
 cast-answer c = search needs
