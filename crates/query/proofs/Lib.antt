@@ -1,3 +1,2 @@
 -- The laws of the query's code; they stand over the definitions of specs/ alone.
-pub mod CellLaws
 pub mod LineLaws

@@ -1,12 +1,10 @@
-// The operation Query: the line that the tool prints for a cell of a field file (02, ticket 6). Public: `query`; the work below it is in
-// modules of their own, for this crate alone. Relies on `query_spec`, `repair_file`, `field_file`, `files_spec`, `reconstruct`, `solve`,
-// `solve_spec`, `field_checks`, `text`, `qlt_spec`, `caas_spec` and `numbers`.
+// The operation Query: the line that the tool prints for a cell of a field file (02, ticket 6). Public: `query`; the work below it is in a
+// module of its own, for this crate alone, and in `cell_parts` and `query_lines`. Relies on these two, `query_spec`, `repair_file`,
+// `field_file`, `files_spec`, `reconstruct`, `field_checks`, `text`, `qlt_spec` and `numbers`.
 ghost use Rattle.query_spec.specs.Query.{QueryContract};
 use text::Reported;
 use text::pieces::put_front;
 
-mod lines;
-mod parts;
 mod work;
 
 // Writes the line for a cell of a field file to the front of `out`: the outcome and the parts of the cell's correction, or the refusal,

@@ -10,15 +10,15 @@ ghost use Rattle.files_spec.specs.FieldFile.{fronts};
 ghost use Rattle.repair_file.specs.RepairFile.{frontCall};
 ghost use Rattle.text.specs.Text.{Put};
 ghost use Rattle.query_spec.specs.Query.{checkCell, lineBy, queryText};
-use crate::lines::put_parts;
-use crate::lines::put_refused;
-use crate::parts::cell_parts;
+use cell_parts::parts::cell_parts;
 use field_checks::total::outcome_of;
 use field_file::read_field;
 use files_spec::FieldRead;
 use numbers::Checked;
 use numbers::checks::unless;
 use qlt_spec::MAX_SCRATCH;
+use query_lines::lines::put_parts;
+use query_lines::lines::put_refused;
 use reconstruct::verdict::verdict;
 use text::pieces::put_refusal;
 

@@ -1,4 +1,4 @@
--- `query::parts::parts_by` meets its contract: the three differences fit 64 bits.
+-- `cell_parts::parts::parts_by` meets its contract: the three differences fit 64 bits.
 use mathlib.Core.Path.{_≡_, _∙_, ap, ap₂}
 use native.Mathlib.Omega.{arith}
 use lib.IntN.{ℤ, pos, _-ℤ_}
@@ -8,10 +8,10 @@ use mir.ValLaws.{toZ-ofZ}
 use Rattle.numbers.proofs.SignedLaws.{sub-fits}
 use Rattle.query_spec.specs.Parts.{partsBy}
 use Rattle.query_spec.proofs.PartsLaws.{parts-path}
-use Rattle.query.proofs.CellLaws.{correction-fits}
+use Rattle.cell_parts.proofs.CellLaws.{correction-fits}
 use borrow.Author.Needs.{needs}
-use Rattle.query.proofs.parts.parts_by.Statement.{statement}
-use Rattle.query.proofs.parts.parts_by.Tie as tie
+use Rattle.cell_parts.proofs.parts.parts_by.Statement.{statement}
+use Rattle.cell_parts.proofs.parts.parts_by.Tie as tie
 
 -- a difference, as it stands in the result
 

@@ -1,10 +1,10 @@
--- `query::lines::put_beyond` meets its contract: the refusal, and the distance after the word of its side.
+-- `query_lines::lines::put_beyond` meets its contract: the refusal, and the distance after the word of its side.
 use native.Mathlib.Omega.{arith}
 use Rattle.text.proofs.TextLaws.{then}
 use Rattle.query_spec.specs.Query.{beyondLine}
 use borrow.Author.Needs.{needs}
-use Rattle.query.proofs.lines.put_beyond.Statement.{statement}
-use Rattle.query.proofs.lines.put_beyond.Tie as tie
+use Rattle.query_lines.proofs.lines.put_beyond.Statement.{statement}
+use Rattle.query_lines.proofs.lines.put_beyond.Tie as tie
 
 put-refusal-requires : tie.Need-put-refusal-requires
 put-refusal-requires c κs = search needs

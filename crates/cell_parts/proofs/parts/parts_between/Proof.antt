@@ -1,14 +1,14 @@
--- `query::parts::parts_between` meets its contract: what the cell has after each step gives its parts (`between`), and none of it is large.
+-- `cell_parts::parts::parts_between` meets its contract: what the cell has after each step gives its parts (`between`), and none of it is large.
 use mathlib.Core.Path.{_≡_, _∙_, ap}
 use mir.Syntax.{w32}
 use mir.Val.{toZ, ofZ}
 use mir.ValLaws.{toZ-ofZ}
 use Rattle.numbers.specs.Lists.{atℤ}
 use Rattle.query_spec.specs.Parts.{partsBy}
-use Rattle.query.proofs.CellLaws.{between}
+use Rattle.cell_parts.proofs.CellLaws.{between}
 use borrow.Author.Needs.{needs}
-use Rattle.query.proofs.parts.parts_between.Statement.{statement}
-use Rattle.query.proofs.parts.parts_between.Tie as tie
+use Rattle.cell_parts.proofs.parts.parts_between.Statement.{statement}
+use Rattle.cell_parts.proofs.parts.parts_between.Tie as tie
 
 node-stages-requires : tie.Need-node-stages-requires
 node-stages-requires c κs = search needs

@@ -1,4 +1,4 @@
--- `query::parts::cell_parts` meets its contract: in each arm the outcome is known, so the lists that are handed on are the bounds in force (`solvable`), and the
+-- `cell_parts::parts::cell_parts` meets its contract: in each arm the outcome is known, so the lists that are handed on are the bounds in force (`solvable`), and the
 -- parts by them are the cell's (`in-force`); in a field of one node the correction is all second share (`alone-told`).
 use mathlib.Core.Path.{_≡_, sym, _∙_, ap}
 use Prim.Native.Nat.{_-_, _<_}
@@ -14,10 +14,10 @@ use Rattle.qlt_spec.specs.Operation.{ReconstructCall, reconstructCall, Reconstr
 use Rattle.qlt_spec.proofs.OperationLaws.{fits-valid}
 use Rattle.reconstruct.proofs.RebuildLaws.{solvable, number-0, number-1, number-2}
 use Rattle.query_spec.proofs.PartsLaws.{cell-low}
-use Rattle.query.proofs.CellLaws.{in-force, alone-told, correction-fits}
+use Rattle.cell_parts.proofs.CellLaws.{in-force, alone-told, correction-fits}
 use borrow.Author.Needs.{needs}
-use Rattle.query.proofs.parts.cell_parts.Statement.{statement}
-use Rattle.query.proofs.parts.cell_parts.Tie as tie
+use Rattle.cell_parts.proofs.parts.cell_parts.Statement.{statement}
+use Rattle.cell_parts.proofs.parts.cell_parts.Tie as tie
 
 abbrev given : tie.Start → ReconstructCall
 given c =

@@ -1,12 +1,12 @@
--- `query::lines::side_of` meets its contract: the sums are those of the lists, and so are the gaps to them.
+-- `query_lines::lines::side_of` meets its contract: the sums are those of the lists, and so are the gaps to them.
 use mathlib.Core.Path.{ap, ap₂, _∙_}
 use Prim.Native.Nat.{min}
 use lib.Dec.{ltb}
 use Rattle.numbers.specs.Signed.{gap}
 use Rattle.query_spec.specs.Query.{isBelow, distance}
 use borrow.Author.Needs.{needs}
-use Rattle.query.proofs.lines.side_of.Statement.{statement}
-use Rattle.query.proofs.lines.side_of.Tie as tie
+use Rattle.query_lines.proofs.lines.side_of.Statement.{statement}
+use Rattle.query_lines.proofs.lines.side_of.Tie as tie
 
 sum-of-requires : tie.Need-sum-of-requires
 sum-of-requires c κs = search needs

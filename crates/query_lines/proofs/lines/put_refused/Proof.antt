@@ -1,10 +1,10 @@
--- `query::lines::put_refused` meets its contract: 8 has the side and the distance of its total after it, and any other refusal is the line.
+-- `query_lines::lines::put_refused` meets its contract: 8 has the side and the distance of its total after it, and any other refusal is the line.
 use native.Mathlib.Omega.{arith}
 use borrow.Author.Tests.{eq-eqb, ne-eqb}
 use Rattle.query_spec.specs.Query.{refusedLine}
 use borrow.Author.Needs.{needs}
-use Rattle.query.proofs.lines.put_refused.Statement.{statement}
-use Rattle.query.proofs.lines.put_refused.Tie as tie
+use Rattle.query_lines.proofs.lines.put_refused.Statement.{statement}
+use Rattle.query_lines.proofs.lines.put_refused.Tie as tie
 
 side-of-requires : tie.Need-side-of-requires
 side-of-requires c κs = search needs

@@ -1,12 +1,12 @@
--- `query::lines::put_parts` meets its contract: a named number and three named signed ones in order are the line.
+-- `query_lines::lines::put_parts` meets its contract: a named number and three named signed ones in order are the line.
 use native.Mathlib.Omega.{arith}
 use mir.Syntax.{w64}
 use mir.ValLaws.{toZ-ofZ}
 use Rattle.text.proofs.TextLaws.{then}
 use Rattle.query_spec.specs.Query.{partsLine}
 use borrow.Author.Needs.{needs}
-use Rattle.query.proofs.lines.put_parts.Statement.{statement}
-use Rattle.query.proofs.lines.put_parts.Tie as tie
+use Rattle.query_lines.proofs.lines.put_parts.Statement.{statement}
+use Rattle.query_lines.proofs.lines.put_parts.Tie as tie
 
 slice-aggregate-put-named : tie.Need-slice-aggregate-put-named
 slice-aggregate-put-named c = search needs
