@@ -20,7 +20,8 @@ module legzhuro
     integer, parameter, public :: legzhuro_scratch = 4 ! scratch numbers for each node
     integer(c_int32_t), parameter, public :: legzhuro_ratio = 1048576 ! the parts of a mixing ratio; also the largest ratio
     integer, parameter, public :: legzhuro_members = 8 ! of a family
-    integer, parameter, public :: legzhuro_family = 19 ! entries of the list that a family stands in
+    integer, parameter, public :: legzhuro_family = 21 ! entries of the list that a family stands in
+    integer, parameter, public :: legzhuro_nobody = 8 ! in the place of a member: nobody waits
     integer, parameter, public :: legzhuro_max_field_file = 18432 ! bytes
     integer, parameter, public :: legzhuro_max_answer_file = 3072 ! bytes
 
@@ -28,6 +29,7 @@ module legzhuro
     public :: legzhuro_split, legzhuro_open, legzhuro_step, legzhuro_import, legzhuro_export
     public :: legzhuro_export_single, legzhuro_bounds
     public :: legzhuro_family_start, legzhuro_family_open, legzhuro_family_step
+    public :: legzhuro_family_register, legzhuro_family_next, legzhuro_family_waiting, legzhuro_family_turn
     public :: legzhuro_number, legzhuro_place, legzhuro_field_file, legzhuro_answer_file
 
     interface
@@ -105,7 +107,8 @@ module legzhuro
         end function legzhuro_step
 
         ! Starts a family: family(1) is the cap, family(2) the scale, family(3) the number of cells; of member i, counted from 0,
-        ! family(4 + 2*i) is 1 if it is open, and family(5 + 2*i) is its total.
+        ! family(4 + 2*i) is 1 if it is open, and family(5 + 2*i) is its total; in family(20) bit i is set if member i waits, and
+        ! family(21) is the member with which the search for the next in turn begins.
         function legzhuro_family_start(cap, scale, cells, family, family_len) result(returned) bind(c, name='legzhuro_family_start')
             import :: c_int32_t, c_int64_t, c_size_t
             integer(c_int64_t), value :: cap
@@ -142,6 +145,51 @@ module legzhuro
             integer(c_int64_t), intent(inout) :: family(family_len), scratch(scratch_len), answer(answer_len)
             integer(c_int64_t) :: returned
         end function legzhuro_family_step
+
+        ! Registers a member of a family as waiting for a turn.
+        function legzhuro_family_register(family, family_len, member) result(returned) bind(c, name='legzhuro_family_register')
+            import :: c_int32_t, c_int64_t, c_size_t
+            integer(c_size_t), value :: family_len
+            integer(c_int32_t), value :: member
+            integer(c_int64_t), intent(inout) :: family(family_len)
+            integer(c_int64_t) :: returned
+        end function legzhuro_family_register
+
+        ! Reads the next in turn: answer(1) is the member, counted from 0, or 8 for nobody.
+        function legzhuro_family_next(family, family_len, answer, answer_len) result(returned) bind(c, name='legzhuro_family_next')
+            import :: c_int64_t, c_size_t
+            integer(c_size_t), value :: family_len, answer_len
+            integer(c_int64_t), intent(in) :: family(family_len)
+            integer(c_int64_t), intent(inout) :: answer(answer_len)
+            integer(c_int64_t) :: returned
+        end function legzhuro_family_next
+
+        ! Reads how many members wait: answer(1) is their number.
+        function legzhuro_family_waiting(family, family_len, answer, answer_len) result(returned) &
+            bind(c, name='legzhuro_family_waiting')
+            import :: c_int64_t, c_size_t
+            integer(c_size_t), value :: family_len, answer_len
+            integer(c_int64_t), intent(in) :: family(family_len)
+            integer(c_int64_t), intent(inout) :: answer(answer_len)
+            integer(c_int64_t) :: returned
+        end function legzhuro_family_waiting
+
+        ! A turn: steps the next in turn. answer(1) is the member, or 8 for idle, answer(2) what its step returns, answer(3) the
+        ! outcome, answer(4) the new total, answer(5) the change, answer(6) the sum shared out.
+        function legzhuro_family_turn(family, family_len, kept, kept_len, source, scale, targets, targets_len, lows, lows_len, &
+                                      highs, highs_len, safe_lows, safe_lows_len, safe_highs, safe_highs_len, weights, &
+                                      weights_len, parents, parents_len, scratch, scratch_len, answer, answer_len) &
+            result(returned) bind(c, name='legzhuro_family_turn')
+            import :: c_int32_t, c_int64_t, c_size_t
+            integer(c_size_t), value :: family_len, kept_len, targets_len, lows_len, highs_len, safe_lows_len, safe_highs_len
+            integer(c_size_t), value :: weights_len, parents_len, scratch_len, answer_len
+            integer(c_int32_t), value :: source, scale
+            integer(c_int32_t), intent(inout) :: kept(kept_len)
+            integer(c_int32_t), intent(in) :: targets(targets_len), lows(lows_len), highs(highs_len), safe_lows(safe_lows_len)
+            integer(c_int32_t), intent(in) :: safe_highs(safe_highs_len), weights(weights_len), parents(parents_len)
+            integer(c_int64_t), intent(inout) :: family(family_len), scratch(scratch_len), answer(answer_len)
+            integer(c_int64_t) :: returned
+        end function legzhuro_family_turn
 
         ! Makes the bounds of a field from air masses and mixing ratios in parts of 1048576.
         function legzhuro_bounds(air, air_len, low_ratios, low_ratios_len, high_ratios, high_ratios_len, lows, lows_len, highs, &

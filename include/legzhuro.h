@@ -31,7 +31,7 @@
  *   16  a file whose first payload word is not 512, or a spare word that is not 0; an answer file with an outcome above 2 (place: the block)
  *   17  a step whose scale is above 30 or not that of the balance; an opening of a member at another scale than the family's
  *   18  a ratio above 1048576 (place: the first cell)
- *   19  a member's number above 7, an opening of a member that is open, a step of one that is not
+ *   19  a member's number above 7, an opening of a member that is open, a step or a registration of one that is not
  *   20  an opening, or a step with a source above 0, after which the totals of a family would pass its cap in sum
  */
 #ifndef LEGZHURO_H
@@ -55,7 +55,8 @@ extern "C" {
 #define LEGZHURO_SCRATCH 4            /* scratch numbers for each node */
 #define LEGZHURO_RATIO 1048576        /* the parts of a mixing ratio; also the largest ratio */
 #define LEGZHURO_MEMBERS 8            /* of a family */
-#define LEGZHURO_FAMILY 19            /* entries of the list that a family stands in */
+#define LEGZHURO_FAMILY 21            /* entries of the list that a family stands in */
+#define LEGZHURO_NOBODY 8             /* in the place of a member: nobody waits */
 #define LEGZHURO_MAX_FIELD_FILE 18432 /* bytes */
 #define LEGZHURO_MAX_ANSWER_FILE 3072 /* bytes */
 
@@ -130,25 +131,27 @@ uint64_t legzhuro_step(uint32_t total, uint32_t total_scale, uint32_t *kept, siz
                        int64_t *scratch, size_t scratch_len, uint64_t *answer, size_t answer_len);
 
 /* Starts a family: up to 8 kept fields, its members, over the same cells, of 1 to 512, at one scale of 0 to 30, with a cap on the sum of their
- * totals. The family stands in the first 19 entries of `family`: family[0] is the cap, family[1] the scale, family[2] the number of cells, and
- * of member i, 0 to 7, family[3 + 2 * i] is 1 if it is open, else 0, and family[4 + 2 * i] is its total. Nobody is open at the start; later
- * entries are left alone. Each call is given the list as the last one left it, and each member has a kept list of its own, lent to its calls
- * alone. Then each member keeps the whole account of its own run, as a kept field by itself does; the totals never pass the cap in sum; and what a
- * member is told and holds depends on its own calls, on scale and cells and, at each call, on the cap less the others' totals, on nothing
- * else. Any list may be handed over: an entry that is too wide is read modulo its width, 2^32 for scale, cells and totals and 2 for what is 0
- * or 1, and the total of a member that is not open counts in the sum as it stands.
- * Refusals: 3 (`family` has fewer than 19 entries), 1, 9. */
+ * totals. The family stands in the first 21 entries of `family`: family[0] is the cap, family[1] the scale, family[2] the number of cells; of
+ * member i, 0 to 7, family[3 + 2 * i] is 1 if it is open, else 0, and family[4 + 2 * i] is its total; in family[19] bit i, of value 2^i, is set
+ * if member i waits, and family[20] is the member with which the search for the next in turn begins. Nobody is open and nobody waits at the
+ * start, and the search begins with member 0; later entries are left alone. Each call is given the list as the last one left it, and each member
+ * has a kept list of its own, lent to its calls alone and to the turns that serve it. Then each member keeps the whole account of its own run, as
+ * a kept field by itself does; the totals never pass the cap in sum; a member that waits is served within 8 turns, and no other twice before it;
+ * and what a member is told and holds depends on its own calls, on scale and cells and, at each call, on the cap less the others' totals, on
+ * nothing else. Any list may be handed over: an entry that is too wide is read modulo its width, 2^32 for scale, cells, totals and the start of
+ * the search, 256 for who waits and 2 for what is 0 or 1, and the total of a member that is not open counts in the sum as it stands.
+ * Refusals: 3 (`family` has fewer than 21 entries), 1, 9. */
 uint64_t legzhuro_family_start(uint64_t cap, uint32_t scale, uint32_t cells, uint64_t *family, size_t family_len);
 
 /* Opens a member of a family with its kept masses, as legzhuro_open does: answer[0] is the total and answer[1] the scale; later entries of
  * `answer` are left alone. The number of masses must be the family's number of cells, `scale` its scale.
- * Refusals: 3 (`family` has fewer than 19 entries or `answer` fewer than two), 19, 1, 9, 17, 13, 20. */
+ * Refusals: 3 (`family` has fewer than 21 entries or `answer` fewer than two), 19, 1, 9, 17, 13, 20. */
 uint64_t legzhuro_family_open(uint64_t *family, size_t family_len, uint32_t member, const uint32_t *kept, size_t kept_len, uint32_t scale,
                               uint64_t *answer, size_t answer_len);
 
 /* Steps a member of a family, as legzhuro_step does, from the total that the family holds of it. After an accepted step the family holds the
  * new total; the other lists and `answer` are as in legzhuro_step. A source of 0 or below is not refused for the cap.
- * Refusals: 3 (`family` has fewer than 19 entries), 19, 1, 2, 3 (also `answer` with fewer than four entries), 17, 4 (place: the smallest node
+ * Refusals: 3 (`family` has fewer than 21 entries), 19, 1, 2, 3 (also `answer` with fewer than four entries), 17, 4 (place: the smallest node
  * that breaks a rule), 5 (place: the first cell), 6, 7, 12, 13, 20, 8. */
 uint64_t legzhuro_family_step(uint64_t *family, size_t family_len, uint32_t member, uint32_t *kept, size_t kept_len, int32_t source,
                               uint32_t scale, const int32_t *targets, size_t targets_len, const uint32_t *lows, size_t lows_len,
@@ -156,6 +159,31 @@ uint64_t legzhuro_family_step(uint64_t *family, size_t family_len, uint32_t memb
                               const uint32_t *safe_highs, size_t safe_highs_len, const uint32_t *weights, size_t weights_len,
                               const uint32_t *parents, size_t parents_len, int64_t *scratch, size_t scratch_len, uint64_t *answer,
                               size_t answer_len);
+
+/* Registers a member of a family as waiting for a turn. Registering twice counts once.
+ * Refusals: 3 (`family` has fewer than 21 entries), 19. */
+uint64_t legzhuro_family_register(uint64_t *family, size_t family_len, uint32_t member);
+
+/* Reads the next in turn: answer[0] is the first member that waits after the last one served, going round, at the start from member 0, or 8
+ * (LEGZHURO_NOBODY) if nobody waits; later entries of `answer` are left alone.
+ * Refusals: 3 (`family` has fewer than 21 entries or `answer` none). */
+uint64_t legzhuro_family_next(const uint64_t *family, size_t family_len, uint64_t *answer, size_t answer_len);
+
+/* Reads how many members wait: answer[0] is the number of bits that are set in family[19]; later entries of `answer` are left alone.
+ * Refusals: 3 (`family` has fewer than 21 entries or `answer` none). */
+uint64_t legzhuro_family_waiting(const uint64_t *family, size_t family_len, uint64_t *answer, size_t answer_len);
+
+/* A turn: serves the next in turn, whose step is called with what is lent, as legzhuro_family_step does, and whose waiting ends with it,
+ * accepted or refused. Lend the kept list of the member that legzhuro_family_next gives. answer[0] is the member served and answer[1] what
+ * legzhuro_family_step returns for it, so 0 if its step was accepted; then answer[2] is the outcome, answer[3] the new total, answer[4] the
+ * change and answer[5] the sum shared out, and 0 each if it was refused. If nobody waits the turn is idle: answer[0] is 8 (LEGZHURO_NOBODY), the
+ * next five are 0, and nothing else changes. Later entries of `answer` are left alone. Outside a turn a step serves nobody: who waits, waits on.
+ * Refusals: 3 (`family` has fewer than 21 entries or `answer` fewer than six); a refused step is in answer[1], and the turn returns 0. */
+uint64_t legzhuro_family_turn(uint64_t *family, size_t family_len, uint32_t *kept, size_t kept_len, int32_t source, uint32_t scale,
+                              const int32_t *targets, size_t targets_len, const uint32_t *lows, size_t lows_len, const uint32_t *highs,
+                              size_t highs_len, const uint32_t *safe_lows, size_t safe_lows_len, const uint32_t *safe_highs,
+                              size_t safe_highs_len, const uint32_t *weights, size_t weights_len, const uint32_t *parents, size_t parents_len,
+                              int64_t *scratch, size_t scratch_len, uint64_t *answer, size_t answer_len);
 
 /* Makes the bounds of a field from mixing ratios: air[c] is the mass of the air of cell c, of 1 to 512 cells, low_ratios[c] and high_ratios[c]
  * are its ratios in parts of 1048576, at most that each. lows[c] is air times low ratio / 1048576 rounded up, highs[c] air times high ratio /

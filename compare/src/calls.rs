@@ -143,6 +143,35 @@ extern "C" {
         answer: *mut u64,
         answer_len: usize,
     ) -> u64;
+    fn legzhuro_family_register(family: *mut u64, family_len: usize, member: u32) -> u64;
+    fn legzhuro_family_next(family: *const u64, family_len: usize, answer: *mut u64, answer_len: usize) -> u64;
+    fn legzhuro_family_waiting(family: *const u64, family_len: usize, answer: *mut u64, answer_len: usize) -> u64;
+    fn legzhuro_family_turn(
+        family: *mut u64,
+        family_len: usize,
+        kept: *mut u32,
+        kept_len: usize,
+        source: i32,
+        scale: u32,
+        targets: *const i32,
+        targets_len: usize,
+        lows: *const u32,
+        lows_len: usize,
+        highs: *const u32,
+        highs_len: usize,
+        safe_lows: *const u32,
+        safe_lows_len: usize,
+        safe_highs: *const u32,
+        safe_highs_len: usize,
+        weights: *const u32,
+        weights_len: usize,
+        parents: *const u32,
+        parents_len: usize,
+        scratch: *mut i64,
+        scratch_len: usize,
+        answer: *mut u64,
+        answer_len: usize,
+    ) -> u64;
 }
 
 // Safety of every wrapper: the pointers and lengths are those of slices, so they are valid, aligned and not null, and exclusive borrows
@@ -305,6 +334,57 @@ pub fn family_step(
             family.as_mut_ptr(),
             family.len(),
             member,
+            kept.as_mut_ptr(),
+            kept.len(),
+            source,
+            scale,
+            lists.targets.as_ptr(),
+            lists.targets.len(),
+            lists.lows.as_ptr(),
+            lists.lows.len(),
+            lists.highs.as_ptr(),
+            lists.highs.len(),
+            lists.safe_lows.as_ptr(),
+            lists.safe_lows.len(),
+            lists.safe_highs.as_ptr(),
+            lists.safe_highs.len(),
+            lists.weights.as_ptr(),
+            lists.weights.len(),
+            lists.parents.as_ptr(),
+            lists.parents.len(),
+            scratch.as_mut_ptr(),
+            scratch.len(),
+            answer.as_mut_ptr(),
+            answer.len(),
+        )
+    }
+}
+
+pub fn family_register(family: &mut [u64], member: u32) -> u64 {
+    unsafe { legzhuro_family_register(family.as_mut_ptr(), family.len(), member) }
+}
+
+pub fn family_next(family: &[u64], answer: &mut [u64]) -> u64 {
+    unsafe { legzhuro_family_next(family.as_ptr(), family.len(), answer.as_mut_ptr(), answer.len()) }
+}
+
+pub fn family_waiting(family: &[u64], answer: &mut [u64]) -> u64 {
+    unsafe { legzhuro_family_waiting(family.as_ptr(), family.len(), answer.as_mut_ptr(), answer.len()) }
+}
+
+pub fn family_turn(
+    family: &mut [u64],
+    kept: &mut [u32],
+    source: i32,
+    scale: u32,
+    lists: &Lists,
+    scratch: &mut [i64],
+    answer: &mut [u64],
+) -> u64 {
+    unsafe {
+        legzhuro_family_turn(
+            family.as_mut_ptr(),
+            family.len(),
             kept.as_mut_ptr(),
             kept.len(),
             source,

@@ -1,5 +1,5 @@
-//! Families of kept fields with a cap on the sum of their totals, with all that their operations turn down, after ticket 10 of 02. Checks
-//! stand in the ticket's order. Written from the papers alone; shares no code with the library.
+//! Families of kept fields with a cap on the sum of their totals, and their turns, with all that their operations turn down, after tickets
+//! 10 and 11 of 02. Checks stand in the tickets' order. Written from the papers alone; shares no code with the library.
 
 use crate::operations::{check_cells, check_scale, check_step, opening_total, refuse, repair_to, Balance, Refusal, SCRATCH_PER_NODE};
 use crate::tree::{Lists, Repair, Workspace};
@@ -13,13 +13,17 @@ pub struct Member {
     pub total: u32,
 }
 
-/// What stands for a family between its calls. A refused start stands for the default: cap, scale and cells 0, nobody open.
+/// What stands for a family between its calls. A refused start stands for the default: cap, scale and cells 0, nobody open or waiting.
 #[derive(Clone, Copy, Debug, Default, PartialEq)]
 pub struct Family {
     pub cap: u64,
     pub scale: u32,
     pub cells: u32,
     pub members: [Member; MEMBERS],
+    /// Bit i is set if member i waits.
+    pub waiting: u8,
+    /// Where the search for the next in turn begins, modulo 8: after the last one served, and at the start at member 0.
+    pub from: u32,
 }
 
 impl Family {
@@ -27,6 +31,10 @@ impl Family {
     pub fn others(&self, member: usize) -> u64 {
         let others = self.members.iter().enumerate().filter(|&(other, _)| other != member);
         others.map(|(_, state)| u64::from(state.total)).sum()
+    }
+
+    fn waits(&self, member: usize) -> bool {
+        self.waiting >> member & 1 == 1
     }
 }
 
@@ -98,4 +106,47 @@ pub fn step_member(
     let repair = repair_to::<SCRATCH_PER_NODE>(workspace, lists, total, kept, scratch)?;
     family.members[index].total = total;
     Ok(repair)
+}
+
+/// Registering a member twice counts once.
+pub fn register(family: &mut Family, member: u32) -> Result<(), Refusal> {
+    let index = check_member(family, member, true)?;
+    family.waiting |= 1 << index;
+    Ok(())
+}
+
+/// The next in turn: the first member waiting, going round once. None if nobody waits.
+pub fn next_member(family: &Family) -> Option<usize> {
+    let from = family.from as usize % MEMBERS;
+    (from..from + MEMBERS).map(|number| number % MEMBERS).find(|&member| family.waits(member))
+}
+
+pub fn waiting_count(family: &Family) -> u32 {
+    family.waiting.count_ones()
+}
+
+/// What a turn has done: nothing, or the step of the member that it served, accepted or not.
+#[derive(Clone, Copy, Debug, PartialEq)]
+pub enum Turned {
+    Idle,
+    Served { member: usize, stepped: Result<Repair, Refusal> },
+}
+
+/// An idle turn changes nothing. A refused step changes who waits and who is next, and nothing else.
+pub fn turn(
+    workspace: &mut Workspace,
+    family: &mut Family,
+    kept: &mut [u32],
+    source: i32,
+    scale: u32,
+    lists: &Lists,
+    scratch: &mut [i64],
+) -> Turned {
+    let Some(member) = next_member(family) else {
+        return Turned::Idle;
+    };
+    let stepped = step_member(workspace, family, member as u32, kept, source, scale, lists, scratch);
+    family.waiting &= !(1 << member);
+    family.from = ((member + 1) % MEMBERS) as u32;
+    Turned::Served { member, stepped }
 }

@@ -1,7 +1,7 @@
 //! The operations as `legzhuro.h` tells of its calls: what an operation gives goes to a lent list, a list too short for it counts under 3,
 //! and number and place come back in one value. Shares no code with the library.
 
-use crate::families::{self, check_family_cells, check_member, Family, Member, MEMBERS};
+use crate::families::{self, check_family_cells, check_member, Family, Member, Turned, MEMBERS};
 use crate::files::{check_answer_header, AnswerHeader};
 use crate::operations::{check_cells, check_counts, refuse, Balance, Refusal};
 use crate::tree::{Lists, Repair, Workspace};
@@ -76,8 +76,14 @@ pub fn step_by<const PER_NODE: usize>(
     Ok(())
 }
 
-/// The entries of a family's list: cap, scale and cells, then for each member whether it is open, and its total.
-pub const FAMILY_ENTRIES: usize = 3 + 2 * MEMBERS;
+/// The entries of a family's list: cap, scale and cells, then for each member whether it is open, and its total, then the waiting byte and
+/// where the search for the next in turn begins.
+pub const FAMILY_ENTRIES: usize = 5 + 2 * MEMBERS;
+pub const WAITING_ENTRY: usize = FAMILY_ENTRIES - 2;
+pub const FROM_ENTRY: usize = FAMILY_ENTRIES - 1;
+
+/// Told for a member where there is none: nobody is next, or a turn was idle.
+pub const NOBODY: u64 = MEMBERS as u64;
 
 /// The place of a member's first entry.
 pub fn member_entry(member: usize) -> usize {
@@ -90,7 +96,8 @@ pub fn read_family(list: &[u64]) -> Family {
         let entry = member_entry(member);
         Member { opened: list[entry] % 2 == 1, total: list[entry + 1] as u32 }
     });
-    Family { cap: list[0], scale: list[1] as u32, cells: list[2] as u32, members }
+    let (waiting, from) = (list[WAITING_ENTRY] as u8, list[FROM_ENTRY] as u32);
+    Family { cap: list[0], scale: list[1] as u32, cells: list[2] as u32, members, waiting, from }
 }
 
 /// Writes a family to the front of a list that is long enough.
@@ -101,6 +108,8 @@ pub fn write_family(family: &Family, list: &mut [u64]) {
         list[entry] = u64::from(state.opened);
         list[entry + 1] = u64::from(state.total);
     }
+    list[WAITING_ENTRY] = u64::from(family.waiting);
+    list[FROM_ENTRY] = u64::from(family.from);
 }
 
 pub fn family_start(cap: u64, scale: u32, cells: u32, list: &mut [u64]) -> Result<(), Refusal> {
@@ -143,6 +152,61 @@ pub fn family_step(
     let repair = families::step_member(workspace, &mut family, member, kept, source, scale, lists, scratch)?;
     write_family(&family, list);
     answer[..4].copy_from_slice(&step_values(repair));
+    Ok(())
+}
+
+pub fn family_register(list: &mut [u64], member: u32) -> Result<(), Refusal> {
+    check_length(list, FAMILY_ENTRIES)?;
+    let mut family = read_family(list);
+    families::register(&mut family, member)?;
+    write_family(&family, list);
+    Ok(())
+}
+
+pub fn family_next(list: &[u64], answer: &mut [u64]) -> Result<(), Refusal> {
+    check_length(list, FAMILY_ENTRIES)?;
+    check_length(answer, 1)?;
+    answer[0] = families::next_member(&read_family(list)).map_or(NOBODY, |member| member as u64);
+    Ok(())
+}
+
+pub fn family_waiting(list: &[u64], answer: &mut [u64]) -> Result<(), Refusal> {
+    check_length(list, FAMILY_ENTRIES)?;
+    check_length(answer, 1)?;
+    answer[0] = u64::from(families::waiting_count(&read_family(list)));
+    Ok(())
+}
+
+/// What is told of a turn: the member, what its step returned, and what is told of the step if it was accepted.
+fn turn_values(turned: Turned) -> [u64; 6] {
+    let (member, stepped) = match turned {
+        Turned::Idle => return [NOBODY, 0, 0, 0, 0, 0],
+        Turned::Served { member, stepped } => (member as u64, stepped),
+    };
+    let [outcome, total, change, shared] = stepped.map_or([0; 4], step_values);
+    [member, returned(stepped.map(|_| ())), outcome, total, change, shared]
+}
+
+/// Both lengths are checked before all else. An idle turn writes to no list but the answer.
+#[allow(clippy::too_many_arguments)] // those of the call, and the workspace
+pub fn family_turn(
+    workspace: &mut Workspace,
+    list: &mut [u64],
+    kept: &mut [u32],
+    source: i32,
+    scale: u32,
+    lists: &Lists,
+    scratch: &mut [i64],
+    answer: &mut [u64],
+) -> Result<(), Refusal> {
+    check_length(list, FAMILY_ENTRIES)?;
+    check_length(answer, 6)?;
+    let mut family = read_family(list);
+    let turned = families::turn(workspace, &mut family, kept, source, scale, lists, scratch);
+    if turned != Turned::Idle {
+        write_family(&family, list);
+    }
+    answer[..6].copy_from_slice(&turn_values(turned));
     Ok(())
 }
 

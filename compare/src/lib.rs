@@ -1,4 +1,4 @@
-//! A second implementation of the paper 01 and of tickets 1 to 10 of 02 (`split`, `tree`, `operations`, `doubles`, `files`, `listing`,
+//! A second implementation of the paper 01 and of tickets 1 to 11 of 02 (`split`, `tree`, `operations`, `doubles`, `files`, `listing`,
 //! `query`, `ratios`, `families`), written from the papers alone and sharing no code with the proved library; the files of the test
 //! programs (`program`, `numbers`, `query_cases`); and, with the feature `library`, what compares the library with it: the calls from C
 //! (`calls`, and `from_c` for the second implementation's side), inputs (`random`, `damage`), and the checks that the comparison program
@@ -17,11 +17,15 @@ pub mod check_families;
 #[cfg(feature = "library")]
 pub mod check_files;
 #[cfg(feature = "library")]
+pub mod check_histories;
+#[cfg(feature = "library")]
 pub mod check_published;
 #[cfg(feature = "library")]
 pub mod check_query;
 #[cfg(feature = "library")]
 pub mod check_run;
+#[cfg(feature = "library")]
+pub mod check_turns;
 pub mod damage;
 pub mod doubles;
 pub mod families;

@@ -5,12 +5,13 @@
 
 use compare::random::Random;
 use compare::tally::Tally;
-use compare::{check_bounds, check_calls, check_examples, check_families, check_files, check_published, check_query, check_run};
+use compare::{check_bounds, check_calls, check_examples, check_families, check_files, check_histories, check_published, check_query};
+use compare::{check_run, check_turns};
 use std::path::Path;
 
 const SEED: u64 = 20190525;
 
-// The refusals that a call can give, after the section "Operations and what each turns down" of 01 and tickets 1, 2 and 5 to 10 of 02, in
+// The refusals that a call can give, after the section "Operations and what each turns down" of 01 and tickets 1, 2 and 5 to 11 of 02, in
 // its order of checks. From C a list that is too short for what a call gives counts under 3.
 const SPLIT: [usize; 6] = [1, 3, 5, 6, 7, 8];
 const OPEN: [usize; 4] = [3, 1, 9, 13];
@@ -44,7 +45,12 @@ const FAMILY_START: [usize; 3] = [3, 1, 9];
 const FAMILY_OPEN: [usize; 7] = [3, 19, 1, 9, 17, 13, 20];
 // 3 comes first for the list of the family, and after 2 for the other lists.
 const FAMILY_STEP: [usize; 13] = [3, 19, 1, 2, 17, 4, 5, 6, 7, 12, 13, 20, 8];
-// Openings and steps.
+const FAMILY_REGISTER: [usize; 2] = [3, 19];
+// The next in turn, and the number waiting.
+const FAMILY_READ: [usize; 1] = [3];
+// 3 comes first for the lists of the family and of the answer; then what the step is refused with.
+const FAMILY_TURN: [usize; 13] = FAMILY_STEP;
+// All calls but starts.
 const FAMILY: [usize; 14] = [3, 19, 1, 2, 9, 17, 4, 5, 6, 7, 12, 13, 20, 8];
 
 const OUTCOMES: [usize; 3] = [0, 1, 2];
@@ -109,8 +115,16 @@ fn main() {
     tally.end_part("family open", &FAMILY_OPEN, &[]);
     check_families::steps(&mut tally, &mut random, scaled(150_000));
     tally.end_part("family step", &FAMILY_STEP, &OUTCOMES);
-    for (cells, histories, calls) in [(8, 24, 4_000), (24, 8, 4_000), (512, 1, 6_000)] {
-        check_families::histories(&mut tally, &mut random, cells, histories, scaled(calls));
+    check_turns::registerings(&mut tally, &mut random, scaled(50_000));
+    tally.end_part("family register", &FAMILY_REGISTER, &[]);
+    check_turns::readings_of_next(&mut tally, &mut random, scaled(40_000));
+    tally.end_part("family next", &FAMILY_READ, &[]);
+    check_turns::readings_of_waiting(&mut tally, &mut random, scaled(40_000));
+    tally.end_part("family waiting", &FAMILY_READ, &[]);
+    check_turns::turns(&mut tally, &mut random, scaled(110_000));
+    tally.end_part("family turn", &FAMILY_TURN, &OUTCOMES);
+    for (cells, histories, calls) in [(8, 24, 6_000), (24, 8, 6_000), (512, 1, 9_000)] {
+        check_histories::histories(&mut tally, &mut random, cells, histories, scaled(calls));
         tally.end_part(&format!("families of {cells} cells"), &FAMILY, &OUTCOMES);
     }
 

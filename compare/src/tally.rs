@@ -1,5 +1,5 @@
 //! Counts inputs and differences, and for each part of the comparison the refusals by number and the accepted calls by outcome. A part
-//! must meet every number and outcome that its calls can give.
+//! must meet every number and outcome that its calls can give, and what else is looked for.
 
 use crate::operations::Refusal;
 use std::time::Instant;
@@ -117,5 +117,29 @@ impl Tally {
 
     fn line(&self) -> String {
         format!("compare: {} inputs, {} differences, {} refusals or outcomes missing", self.inputs, self.differences, self.missing.len())
+    }
+}
+
+/// How often things have occurred that must occur.
+#[derive(Default)]
+pub struct Occurrences {
+    counts: Vec<(&'static str, u64)>,
+}
+
+impl Occurrences {
+    /// Counts something if it occurred; from then on it is looked for in any case.
+    pub fn note(&mut self, what: &'static str, occurred: bool) {
+        match self.counts.iter_mut().find(|(known, _)| *known == what) {
+            Some((_, count)) => *count += u64::from(occurred),
+            None => self.counts.push((what, u64::from(occurred))),
+        }
+    }
+
+    /// Prints each count, after the name of what it belongs to; none may be 0.
+    pub fn look_for(&self, tally: &mut Tally, name: &str) {
+        for (what, count) in &self.counts {
+            println!("{name} {what}: {count}");
+            tally.must_occur(&format!("{name} {what}"), *count);
+        }
     }
 }

@@ -105,35 +105,58 @@ static int open_tracer(struct tracers *tracers, uint32_t member, uint32_t scale)
     return 0;
 }
 
-static int step_tracer(struct tracers *tracers, uint32_t member, int32_t source, uint32_t scale) {
+/* A tracer that has a step to make waits for its turn. */
+static int register_tracer(struct tracers *tracers, uint32_t member) {
+    uint64_t waiting[1];
+
+    printf("tracer %" PRIu32 " registers:", member);
+    uint64_t returned = legzhuro_family_register(tracers->family, LEGZHURO_FAMILY, member);
+    if (returned == 0) returned = legzhuro_family_waiting(tracers->family, LEGZHURO_FAMILY, waiting, 1);
+    if (returned != 0) return refused(returned);
+    printf(" waiting %" PRIu64 "\n", waiting[0]);
+    return 0;
+}
+
+/* A turn, with a source for each tracer: the next one is lent its own masses. */
+static int turn(struct tracers *tracers, const int32_t sources[TRACERS], uint32_t scale) {
     static int64_t scratch[LEGZHURO_SCRATCH * NODES];
     const struct bounds *bounds = &field_bounds;
-    uint64_t answer[4];
+    uint64_t next[1], answer[6];
 
-    printf("tracer %" PRIu32 " step %" PRId32 ":", member, source);
-    uint64_t returned =
-        legzhuro_family_step(tracers->family, LEGZHURO_FAMILY, member, tracers->kept[member], CELLS, source, scale, targets, CELLS,
-                             bounds->lows, CELLS, bounds->highs, CELLS, bounds->safe_lows, CELLS, bounds->safe_highs, CELLS, weights, CELLS,
-                             parents, NODES, scratch, LEGZHURO_SCRATCH * NODES, answer, 4);
+    uint64_t returned = legzhuro_family_next(tracers->family, LEGZHURO_FAMILY, next, 1);
     if (returned != 0) return refused(returned);
-    printf(" outcome %" PRIu64 " total %" PRIu64 " change %" PRIu64 " shared %" PRIu64, answer[0], answer[1], answer[2], answer[3]);
+    uint64_t member = next[0] == LEGZHURO_NOBODY ? 0 : next[0]; /* with nobody waiting nothing is written, whatever is lent */
+    printf("turn:");
+    returned = legzhuro_family_turn(tracers->family, LEGZHURO_FAMILY, tracers->kept[member], CELLS, sources[member], scale, targets, CELLS,
+                                    bounds->lows, CELLS, bounds->highs, CELLS, bounds->safe_lows, CELLS, bounds->safe_highs, CELLS, weights,
+                                    CELLS, parents, NODES, scratch, LEGZHURO_SCRATCH * NODES, answer, 6);
+    if (returned != 0) return refused(returned);
+    if (answer[0] == LEGZHURO_NOBODY) {
+        printf(" idle\n");
+        return 0;
+    }
+    printf(" tracer %" PRIu64 " step %" PRId32 ":", answer[0], sources[member]);
+    if (answer[1] != 0) return refused(answer[1]);
+    printf(" outcome %" PRIu64 " total %" PRIu64 " change %" PRIu64 " shared %" PRIu64, answer[2], answer[3], answer[4], answer[5]);
     print_masses(tracers->kept[member], CELLS);
     return 0;
 }
 
-/* A cap of 30 on both totals together. */
+/* A cap of 30 on both totals together, and a turn for each tracer that registers: tracer 0 is first, a source of 7 is too much for tracer 1, and
+ * nobody waits any more; tracer 1 registers again with a source of 6. */
 static int step_tracers(void) {
     struct tracers tracers = {{0}, {{1, 2, 3, 4}, {2, 2, 2, 2}}};
+    const int32_t sources[TRACERS] = {6, 7}, less[TRACERS] = {6, 6};
 
     printf("family:");
     uint64_t returned = legzhuro_family_start(30, 1, CELLS, tracers.family, LEGZHURO_FAMILY);
     if (returned != 0) return refused(returned);
     printf(" cap %" PRIu64 "\n", tracers.family[0]);
     if (open_tracer(&tracers, 0, 1) != 0 || open_tracer(&tracers, 1, 1) != 0) return 1;
-    step_tracer(&tracers, 0, 6, 1);
-    step_tracer(&tracers, 1, 7, 1);
-    step_tracer(&tracers, 1, 6, 1);
-    return 0;
+    if (register_tracer(&tracers, 1) != 0 || register_tracer(&tracers, 0) != 0 || register_tracer(&tracers, 1) != 0) return 1;
+    for (int i = 0; i <= TRACERS; i++) turn(&tracers, sources, 1);
+    if (register_tracer(&tracers, 1) != 0) return 1;
+    return turn(&tracers, less, 1);
 }
 
 static int convert(void) {

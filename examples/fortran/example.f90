@@ -69,7 +69,16 @@ contains
             print '(3(a, i0))', 'tracer ', member, ' open: total ', answer(1), ' scale ', answer(2)
         end do
         call step_tracer(family, 1, tracers(:, 1), 3)
-        call step_tracer(family, 1, tracers(:, 1), 1)
+        do member = 1, 0, -1
+            returned = legzhuro_family_register(family, size(family, kind=c_size_t), member)
+            if (returned /= 0) error stop 'a tracer was refused'
+        end do
+        do
+            returned = legzhuro_family_next(family, size(family, kind=c_size_t), answer, size(answer, kind=c_size_t))
+            if (returned /= 0) error stop 'the reading was refused'
+            if (answer(1) == legzhuro_nobody) exit
+            call turn(family, tracers(:, answer(1)), 1)
+        end do
     end subroutine step_tracers
 
     subroutine step_tracer(family, member, masses, source)
@@ -81,14 +90,38 @@ contains
         returned = legzhuro_family_step(family, size(family, kind=c_size_t), member, masses, cells, source, 1, targets, cells, &
                                         lows, cells, highs, cells, safe_lows, cells, safe_highs, cells, weights, cells, &
                                         parents, nodes, scratch, size(scratch, kind=c_size_t), answer, size(answer, kind=c_size_t))
+        call print_step('', int(member, c_int64_t), source, answer, masses)
+    end subroutine step_tracer
+
+    ! A turn of the next tracer, which is lent its own masses.
+    subroutine turn(family, masses, source)
+        integer(c_int64_t), intent(inout) :: family(:)
+        integer(c_int32_t), intent(in) :: source
+        integer(c_int32_t), intent(inout) :: masses(cells)
+        integer(c_int64_t) :: scratch(legzhuro_scratch*nodes), told(6)
+
+        returned = legzhuro_family_turn(family, size(family, kind=c_size_t), masses, cells, source, 1, targets, cells, lows, &
+                                        cells, highs, cells, safe_lows, cells, safe_highs, cells, weights, cells, parents, &
+                                        nodes, scratch, size(scratch, kind=c_size_t), told, size(told, kind=c_size_t))
+        if (returned /= 0) error stop 'the turn was refused'
+        returned = told(2)
+        call print_step('turn: ', told(1), source, told(3:), masses)
+    end subroutine turn
+
+    ! What a step of a tracer returned and told.
+    subroutine print_step(name, member, source, told, masses)
+        character(*), intent(in) :: name
+        integer(c_int64_t), intent(in) :: member, told(:)
+        integer(c_int32_t), intent(in) :: source, masses(cells)
+
         if (returned /= 0) then
-            print '(4(a, i0))', 'tracer ', member, ' step ', source, ': refused ', legzhuro_number(returned), ' ', &
+            print '(2a, 4(i0, a), i0)', name, 'tracer ', member, ' step ', source, ': refused ', legzhuro_number(returned), ' ', &
                 legzhuro_place(returned)
             return
         end if
-        print '(6(a, i0), a, *(1x, i0))', 'tracer ', member, ' step ', source, ': outcome ', answer(1), ' total ', answer(2), &
-            ' change ', answer(3), ' shared ', answer(4), ' masses', masses
-    end subroutine step_tracer
+        print '(2a, 6(i0, a), *(1x, i0))', name, 'tracer ', member, ' step ', source, ': outcome ', told(1), ' total ', told(2), &
+            ' change ', told(3), ' shared ', told(4), ' masses', masses
+    end subroutine print_step
 
     ! Bounds by each cell's air mass, and a ratio of a quarter but for the high ratio of cell 2. With all ratios equal and each
     ! product whole, every mass of the step is air times ratio, whatever the targets.

@@ -8,7 +8,7 @@ ghost use Rattle.family_spec.specs.Family.{openWith, memberAt, put, begun, othe
 use family_spec::Family;
 use family_spec::Member;
 
-// A family of which nobody is open.
+// A family of which nobody is open and nobody waits.
 pub fn begin(cap: u64, scale: u32, cells: u32) -> Family
     ensures { λ r. ⌜ r ≡ begun cap scale cells ⌝ }
 {
@@ -21,6 +21,8 @@ pub fn begin(cap: u64, scale: u32, cells: u32) -> Family
         scale,
         cells,
         members: [none; 8],
+        waiting: 0,
+        from: 0,
     }
 }
 

@@ -45,7 +45,7 @@ fn check_closed(family: Family, i: u32) -> Checked
 }
 
 // 19: a number above 7, or a member that is not open.
-fn check_opened(family: Family, i: u32) -> Checked
+pub fn check_opened(family: Family, i: u32) -> Checked
     ensures { λ r. ⌜ r ≡ checkOpened i (memberAt family i) ⌝ }
 {
     if 7 < i {

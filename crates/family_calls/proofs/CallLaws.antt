@@ -30,7 +30,7 @@ use Rattle.family_spec.specs.Family.{openWith, memberAt, put, begun, terms}
 use Rattle.family_spec.specs.Member.{checkOpened, checkSameCells, StepInputs, callOf}
 use Rattle.family_spec.specs.Operations.{startVerdict, startTells, StartContract, openMemberVerdict, OpenMemberContract, stepMemberVerdict, StepMemberContract}
 use Rattle.family_calls.specs.List.{familyEntries, familyWords, familyIn}
-use Rattle.family_calls.specs.Calls.{startCallVerdict, FamilyStartReturns, openCallVerdict, FamilyOpenReturns, stepCallVerdict, FamilyStepReturns}
+use Rattle.family_calls.specs.Calls.{callRoom, startCallVerdict, FamilyStartReturns, openCallVerdict, FamilyOpenReturns, stepCallVerdict, FamilyStepReturns}
 
 -- ---- start
 
@@ -60,30 +60,28 @@ module _ (cap scale n : ℕ) (family : List ℕ) where
 
 -- ---- open
 
--- the checks of the lists
-abbrev pub openRoom : List ℕ → List ℕ → Checked
-openRoom family answer = first (checkLong (length family) familyEntries ∷ checkLong (length answer) openValues ∷ [])
+-- the lists of a call with room are long enough
+module _ (family answer : List ℕ) (values : ℕ) (e : callRoom family answer values ≡ Pass) where
+  pub room-family : familyEntries ≤ length family
+  room-family = long-decides (length family) familyEntries .passes .0 (both-first (checkLong (length family) familyEntries) _ e)
+
+  pub room-answer : values ≤ length answer
+  room-answer = long-decides (length answer) values .passes .0 (both-first _ Pass (both-second (checkLong (length family) familyEntries) _ e))
 
 module _ (family : List ℕ) (i : ℕ) (kept : List ℕ) (k : ℕ) (answer : List ℕ) where
   abbrev f : Family
   f = familyIn family
 
-  open-chain : openCallVerdict family i kept k answer ≡ both (openRoom family answer) (openMemberVerdict f i kept k)
+  open-chain : openCallVerdict family i kept k answer ≡ both (callRoom family answer openValues) (openMemberVerdict f i kept k)
   unfolding openCallVerdict
   open-chain = first-last (checkLong (length family) familyEntries ∷ checkLong (length answer) openValues ∷ []) (openMemberVerdict f i kept k)
 
-  pub open-room-refused : {r number place : ℕ} → openRoom family answer ≡ Fail number place → r ≡ number + place * 2 ^ 32 → FamilyOpenReturns family i kept k answer r family answer
+  pub open-room-refused : {r number place : ℕ} → callRoom family answer openValues ≡ Fail number place → r ≡ number + place * 2 ^ 32 → FamilyOpenReturns family i kept k answer r family answer
   open-room-refused e z =
       let v = open-chain ∙ ap (λ w. both w (openMemberVerdict f i kept k)) e in
       record { returns = returned-fail v z; gives = after-fail _ family v; writes = after-fail _ answer v }
 
-  module _ (e : openRoom family answer ≡ Pass) where
-    pub open-family : familyEntries ≤ length family
-    open-family = long-decides (length family) familyEntries .passes .0 (both-first (checkLong (length family) familyEntries) _ e)
-
-    pub open-answer : openValues ≤ length answer
-    open-answer = long-decides (length answer) openValues .passes .0 (both-first _ Pass (both-second (checkLong (length family) familyEntries) _ e))
-
+  module _ (e : callRoom family answer openValues ≡ Pass) where
     open-past : openCallVerdict family i kept k answer ≡ openMemberVerdict f i kept k
     open-past = open-chain ∙ ap (λ w. both w (openMemberVerdict f i kept k)) e
 

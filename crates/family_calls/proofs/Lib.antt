@@ -1,4 +1,3 @@
 pub mod ListLaws
 pub mod CallLaws
 pub mod OwnLaws
-pub mod RunLaws

@@ -1,7 +1,7 @@
 -- Reading a family from a list gives back what was written into it. Assumes nothing.
-use mathlib.Core.Path.{_≡_, refl, _∙_}
+use mathlib.Core.Path.{_≡_, refl, _∙_, ap}
 use mathlib.Core.Bool.{Bool, true, false}
-use mathlib.Core.List.{List, [], _∷_}
+use mathlib.Core.List.{List, [], _∷_, _++_}
 use Prim.Native.Nat.{ℕ, zero, suc, _+_, _*_, _%_, _^_, _<_, _≤_}
 use native.Mathlib.Omega.{arith}
 use lib.Dec.{eqb}
@@ -10,7 +10,7 @@ use Rattle.numbers.specs.Lists.{All, written}
 use Rattle.numbers.proofs.PartLaws.{length-kept, written-on}
 use Rattle.family_spec.specs.declared.Member.{Member}
 use Rattle.family_spec.specs.declared.Family.{Family}
-use Rattle.family_spec.specs.Family.{closed, openWith, memberAt, put, begun}
+use Rattle.family_spec.specs.Family.{closed, openWith, memberAt, put, schedule, begun}
 use Rattle.family_calls.specs.List.{flag, memberWords, membersWords, familyWords, memberIn, familyIn}
 
 -- ---- what the machine's numbers hold
@@ -23,6 +23,8 @@ pub record Typed (f : Family) : Type 0 where
   pub cells : f .cells < 2 ^ 32
   pub eight : length (f .members) ≡ 8
   pub totals : All Narrow (f .members)
+  pub byte : f .waiting < 2 ^ 8
+  pub start : f .from < 2 ^ 32
 
 -- what is read is that
 pub in-typed : (list : List ℕ) → Typed (familyIn list)
@@ -34,6 +36,8 @@ in-typed list =
       totals =
           All.more {e = memberIn list 3} (narrow 3) (All.more {e = memberIn list 5} (narrow 5) (All.more {e = memberIn list 7} (narrow 7) (All.more {e = memberIn list 9} (narrow 9)
           (All.more {e = memberIn list 11} (narrow 11) (All.more {e = memberIn list 13} (narrow 13) (All.more {e = memberIn list 15} (narrow 15) (All.more {e = memberIn list 17} (narrow 17) All.none)))))));
+      byte = omega arith;
+      start = omega arith;
     }
   where
     narrow : (j : ℕ) → Narrow (memberIn list j)
@@ -41,7 +45,7 @@ in-typed list =
 
 -- so is a family that has begun, and one with another total
 pub begun-typed : (cap scale cells : ℕ) → scale < 2 ^ 32 → cells < 2 ^ 32 → Typed (begun cap scale cells)
-begun-typed cap scale cells h k = record { scale = h; cells = k; eight = refl; totals = all-closed 8 }
+begun-typed cap scale cells h k = record { scale = h; cells = k; eight = refl; totals = all-closed 8; byte = omega arith; start = omega arith }
   where
     all-closed : (k : ℕ) → All Narrow (replicate k closed)
     all-closed zero = All.none
@@ -54,7 +58,17 @@ all-set (x ∷ ms) (suc i) m h (All.more k ks) = All.more k (all-set ms i m h ks
 
 pub put-typed : (f : Family) (i total : ℕ) → total < 2 ^ 32 → Typed f → Typed (put f i (openWith total))
 put-typed f i total h t =
-    record { scale = t .scale; cells = t .cells; eight = length-set (f .members) i (openWith total) ∙ t .eight; totals = all-set (f .members) i (openWith total) h (t .totals) }
+    record {
+      scale = t .scale;
+      cells = t .cells;
+      eight = length-set (f .members) i (openWith total) ∙ t .eight;
+      totals = all-set (f .members) i (openWith total) h (t .totals);
+      byte = t .byte;
+      start = t .start;
+    }
+
+pub schedule-typed : (f : Family) (byte from : ℕ) → byte < 2 ^ 8 → from < 2 ^ 32 → Typed f → Typed (schedule f byte from)
+schedule-typed f byte from h k t = record { scale = t .scale; cells = t .cells; eight = t .eight; totals = t .totals; byte = h; start = k }
 
 -- ---- reading back
 
@@ -86,7 +100,9 @@ unfolding written
 family-read list f t =
     let a : f .scale % 2 ^ 32 ≡ f .scale = omega (arith, t .scale) in
     let b : f .cells % 2 ^ 32 ≡ f .cells = omega (arith, t .cells) in
-    λ z. record { cap = f .cap; scale = a z; cells = b z; members = back-list 8 (f .members) (t .eight) (t .totals) z }
+    let c : f .waiting % 2 ^ 8 ≡ f .waiting = omega (arith, t .byte) in
+    let d : f .from % 2 ^ 32 ≡ f .from = omega (arith, t .start) in
+    λ z. record { cap = f .cap; scale = a z; cells = b z; members = back-list 8 (f .members) (t .eight) (t .totals) z; waiting = c z; from = d z }
 
 -- ---- writing member by member
 
@@ -107,6 +123,12 @@ member-on f k list place h p q r e =
 pub members-length : (f : Family) (k : ℕ) (list : List ℕ) → 3 + 2 * k ≤ length list → length (written list 3 (membersWords f k)) ≡ length list
 members-length f k list h = length-kept list 3 (membersWords f k) (omega (arith, words-length f k, h))
 
--- the members behind the cap, the scale and the cells
-pub family-on : (f : Family) (list : List ℕ) → written (written list 0 (f .cap ∷ f .scale ∷ f .cells ∷ [])) 3 (membersWords f 8) ≡ written list 0 (familyWords f)
-family-on f list = written-on list (f .cap ∷ f .scale ∷ f .cells ∷ []) (membersWords f 8) 0 3 (omega arith) refl
+-- the members behind the cap, the scale and the cells, and the byte of who waits and where the search begins behind them
+pub family-on :
+    (f : Family) (list : List ℕ)
+    → written (written (written list 0 (f .cap ∷ f .scale ∷ f .cells ∷ [])) 3 (membersWords f 8)) 19 (f .waiting ∷ f .from ∷ []) ≡ written list 0 (familyWords f)
+family-on f list =
+    let first = f .cap ∷ f .scale ∷ f .cells ∷ [] in
+    let last = f .waiting ∷ f .from ∷ [] in
+    ap (λ l. written l 19 last) (written-on list first (membersWords f 8) 0 3 (omega arith) refl)
+    ∙ written-on list (first ++ membersWords f 8) last 0 19 (omega arith) refl

@@ -31,20 +31,19 @@ use Rattle.family_spec.specs.Member.{checkOpened, checkSameCells, StepInputs, c
 use Rattle.family_spec.specs.Operations.{startVerdict, startTells, startAnswer, StartContract, openMemberVerdict, OpenMemberContract, stepMemberVerdict, StepMemberContract}
 use Rattle.family_spec.proofs.RuleLaws.{start-decides, start-accepts, start-numbers, opening-decides, opening-accepts, opening-numbers, stepping-decides, stepping-accepts, stepping-numbers}
 use Rattle.family_calls.specs.List.{familyEntries, familyWords, familyIn}
-use Rattle.family_calls.specs.Calls.{startCallVerdict, FamilyStartReturns, openCallVerdict, FamilyOpenReturns, stepCallVerdict, FamilyStepReturns}
-use Rattle.family_calls.specs.CallRuns.{openTold, stepTold}
+use Rattle.family_calls.specs.Calls.{startCallVerdict, FamilyStartReturns, openCallVerdict, FamilyOpenReturns, stepCallVerdict, FamilyStepReturns, openTold, stepTold}
 use Rattle.family_calls.proofs.ListLaws.{Typed, in-typed, begun-typed, put-typed, family-read}
 
 -- ---- the family read from the list that a call left
 
-read-after :
+pub read-after :
     (list list′ : List ℕ) (g old : Family) (v : Checked) → list′ ≡ after v (written list 0 (familyWords g)) list → (v ≡ Pass → Typed g) → familyIn list ≡ old
     → familyIn list′ ≡ after v g old
 read-after list list′ g old Pass e t h = ap familyIn e ∙ family-read list g (t refl)
 read-after list list′ g old (Fail number place) e t h = ap familyIn e ∙ h
 
 -- the list keeps its length
-length-after : (list list′ : List ℕ) (g : Family) (v : Checked) → list′ ≡ after v (written list 0 (familyWords g)) list → familyEntries ≤ length list → familyEntries ≤ length list′
+pub length-after : (list list′ : List ℕ) (g : Family) (v : Checked) → list′ ≡ after v (written list 0 (familyWords g)) list → familyEntries ≤ length list → familyEntries ≤ length list′
 length-after list list′ g Pass e h = let k = ap length e ∙ length-kept list 0 (familyWords g) h in omega (arith, k, h)
 length-after list list′ g (Fail number place) e h = let k = ap length e in omega (arith, k, h)
 
@@ -152,15 +151,15 @@ module _ (family : List ℕ) (i : ℕ) (kept : List ℕ) (k : ℕ) (answer : Lis
 
 -- ---- step
 
+pub step-numbered : (f : Family) (i : ℕ) (x : StepInputs) → Numbered (stepMemberVerdict f i x)
+step-numbered f i x = numbered _ (stepping-decides (terms f) i (memberAt f i) (room f i) x) (stepping-numbers (terms f) i (memberAt f i) (room f i) x) refl
+
 module _ (family : List ℕ) (i : ℕ) (x : StepInputs) (answer : List ℕ) (r : ℕ) (family′ kept : List ℕ) (scratch : List ℤ) (answer′ : List ℕ) (q : FamilyStepReturns family i x answer r family′ kept scratch answer′) where
   abbrev g : Family
   g = familyIn family
 
   abbrev c : StepCall
   c = callOf (terms g) (memberAt g i) x
-
-  step-numbered : Numbered (stepMemberVerdict g i x)
-  step-numbered = numbered _ (stepping-decides (terms g) i (memberAt g i) (room g i) x) (stepping-numbers (terms g) i (memberAt g i) (room g i) x) refl
 
   pub step-length : familyEntries ≤ length family → familyEntries ≤ length family′
   step-length h = length-after family family′ (put g i (openWith (newTotal c))) (stepCallVerdict family i x answer) (q .gives) h
@@ -188,7 +187,7 @@ module _ (family : List ℕ) (i : ℕ) (x : StepInputs) (answer : List ℕ) (r :
             record {
               answers =
                   answer-tells (stepTold family i x r answer′)
-                  ∙ told-own (stepMemberVerdict g i x) r (resultIn c answer′) (stepResult c) step-numbered (q .returns ∙ ap returned v)
+                  ∙ told-own (stepMemberVerdict g i x) r (resultIn c answer′) (stepResult c) (step-numbered g i x) (q .returns ∙ ap returned v)
                   (λ e. ap (resultIn c) (q .writes ∙ after-by (written answer 0 (repairWords (stepResult c .repair))) answer (v ∙ e)) ∙ result-read c answer);
               leaves = subst (λ w. Leaves w (repairCall c) kept scratch) v (q .leaves);
             };

@@ -1,4 +1,4 @@
--- The calls from C on a family: what each returns and leaves in the lists lent to it. A list for the family with fewer than 19 entries is refused
+-- The calls from C on a family: what each returns and leaves in the lists lent to it. A list for the family with fewer than 21 entries is refused
 -- with 3, before all else. Assumes nothing.
 use mathlib.Core.Path.{_≡_}
 use mathlib.Core.List.{List, [], _∷_}
@@ -7,17 +7,22 @@ use lib.IntN.{ℤ}
 use lib.ListN.{length}
 use Rattle.numbers.specs.declared.Checked.{Checked}
 use Rattle.numbers.specs.Lists.{sum, written}
-use Rattle.numbers.specs.Checks.{after, first, checkCount, checkLong}
+use Rattle.numbers.specs.Checks.{Answered, after, first, checkCount, checkLong}
 use Rattle.qlt_spec.specs.Field.{cells, nodes}
 use Rattle.qlt_spec.specs.Checks.{checkNodes}
 use Rattle.qlt_spec.specs.Operation.{repair, Leaves}
+use Rattle.kept_spec.specs.declared.Balance.{Balance}
 use Rattle.kept_spec.specs.Open.{openBalance}
-use Rattle.kept_spec.specs.Step.{newTotal, repairCall}
-use Rattle.call_values.specs.Values.{returned, openValues, balanceWords, stepValues, repairWords}
+use Rattle.kept_spec.specs.Step.{newTotal, repairCall, StepResult}
+use Rattle.call_values.specs.Values.{returned, toldBy, openValues, balanceWords, balanceIn, stepValues, repairWords, resultIn}
 use Rattle.family_spec.specs.Family.{openWith, memberAt, put, begun, terms}
 use Rattle.family_spec.specs.Member.{checkOpened, checkSameCells, StepInputs, callOf}
 use Rattle.family_spec.specs.Operations.{startVerdict, openMemberVerdict, stepMemberVerdict}
 use Rattle.family_calls.specs.List.{familyEntries, familyWords, familyIn}
+
+-- under 3 the list of the family, and the list for the values that a call gives
+abbrev pub callRoom : List ℕ → List ℕ → ℕ → Checked
+callRoom family answer values = first (checkLong (length family) familyEntries ∷ checkLong (length answer) values ∷ [])
 
 -- ---- start
 
@@ -65,3 +70,11 @@ pub record FamilyStepReturns (family : List ℕ) (i : ℕ) (x : StepInputs) (ans
       answer′
       ≡ after (stepCallVerdict family i x answer)
       (written answer 0 (repairWords (repair (x .lists) (newTotal (callOf (terms (familyIn family)) (memberAt (familyIn family) i) x))))) answer
+
+-- ---- what a call told, by its return value and the list for its values
+
+abbrev pub openTold : ℕ → List ℕ → Answered Balance
+openTold r answer′ = toldBy r (balanceIn answer′)
+
+abbrev pub stepTold : List ℕ → ℕ → StepInputs → ℕ → List ℕ → Answered StepResult
+stepTold family i x r answer′ = toldBy r (resultIn (callOf (terms (familyIn family)) (memberAt (familyIn family) i) x) answer′)

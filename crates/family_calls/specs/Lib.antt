@@ -1,3 +1,2 @@
 pub mod List
 pub mod Calls
-pub mod CallRuns

@@ -9,7 +9,7 @@ use Rattle.family_spec.specs.declared.Family.{Family}
 use Rattle.family_spec.specs.Family.{memberAt}
 
 abbrev pub familyEntries : ℕ
-familyEntries = 19
+familyEntries = 21
 
 -- ---- written
 
@@ -25,9 +25,9 @@ abbrev pub membersWords : Family → ℕ → List ℕ
 membersWords f zero = []
 membersWords f (suc k) = membersWords f k ++ memberWords (memberAt f k)
 
--- the cap, the scale and the cells, and of each member whether it is open and its total
+-- the cap, the scale and the cells, of each member whether it is open and its total, the byte of who waits, and where the search begins
 abbrev pub familyWords : Family → List ℕ
-familyWords f = (f .cap ∷ f .scale ∷ f .cells ∷ []) ++ membersWords f 8
+familyWords f = ((f .cap ∷ f .scale ∷ f .cells ∷ []) ++ membersWords f 8) ++ (f .waiting ∷ f .from ∷ [])
 
 -- ---- read: an entry that is too wide, modulo its width
 
@@ -46,4 +46,6 @@ familyIn list =
       cells = wordIn list 2;
       members =
           memberIn list 3 ∷ memberIn list 5 ∷ memberIn list 7 ∷ memberIn list 9 ∷ memberIn list 11 ∷ memberIn list 13 ∷ memberIn list 15 ∷ memberIn list 17 ∷ [];
+      waiting = at list 19 % 2 ^ 8;
+      from = wordIn list 20;
     }

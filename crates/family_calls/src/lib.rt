@@ -1,5 +1,5 @@
-// The calls from C on a family, which stands in a lent list of numbers; `legzhuro_c` exports them. Public: `start`, `open`, `step`. What holds of
-// every history of these calls is proved here, from `family_spec`. Relies on `family`, `call_values`, `family_spec`, `kept_spec`, `qlt_spec` and
+// The calls from C on a family, which stands in a lent list of numbers; `legzhuro_c` exports them, the calls for turns are in `turn_calls`. Public:
+// `start`, `open`, `step`; for the crates above `list` and `verdict`. Relies on `family`, `call_values`, `family_spec`, `kept_spec`, `qlt_spec` and
 // `numbers`.
 ghost use Rattle.qlt_spec.specs.Field.{lists};
 ghost use Rattle.family_spec.specs.Member.{stepInputs};
@@ -17,14 +17,17 @@ use list::put_family;
 use list::read_family;
 use numbers::Checked;
 
-mod list;
-mod verdict;
+pub mod list;
+pub mod verdict;
+
+// The values that an opening gives; `openValues` in the specifications of `call_values`.
+const OPEN_VALUES: usize = 2;
 
 // Starts a family.
 pub fn start(cap: u64, scale: u32, cells: u32, family: &mut [u64]) -> u64
     ensures { λ r. ⌜ FamilyStartReturns cap scale cells (now (family .entry)) r (now (family .exit)) ⌝ }
 {
-    if family.len() < 19 {
+    if family.len() < list::FAMILY_ENTRIES {
         return 3;
     }
     let started = start_family(cap, scale, cells);
@@ -40,7 +43,7 @@ pub fn open(family: &mut [u64], member: u32, kept: &[u32], scale: u32, answer: &
     ensures { λ r.
         ⌜ FamilyOpenReturns (now (family .entry)) member (now (kept .entry)) scale (now (answer .entry)) r (now (family .exit)) (now (answer .exit)) ⌝ }
 {
-    let room = verdict::open_room(family.len(), answer.len());
+    let room = verdict::call_room(family.len(), answer.len(), OPEN_VALUES);
     if let Checked::Fail { number, place } = room {
         return refusal(number, place);
     }

@@ -1,4 +1,5 @@
-// A family in a lent list of numbers: the cap, the scale, the cells, and of each member whether it is open and its total.
+// A family in a lent list of numbers: the cap, the scale, the cells, of each member whether it is open and its total, the byte of who waits, and
+// where the search begins.
 ghost use mathlib.Core.Path.{_≡_};
 ghost use Prim.Native.Nat.{_+_, _%_, _≤_, _^_};
 ghost use lib.ListN.{length};
@@ -7,6 +8,9 @@ ghost use Rattle.family_calls.specs.List.{familyEntries, flag, memberWor
 use family::members::member_at;
 use family_spec::Family;
 use family_spec::Member;
+
+// The entries; `familyEntries` in specs/.
+pub const FAMILY_ENTRIES: usize = 21;
 
 // An entry as a number of 32 bits.
 fn word(x: u64) -> u32
@@ -43,6 +47,8 @@ pub fn read_family(list: &[u64]) -> Family
             read_member(list, 15),
             read_member(list, 17),
         ],
+        waiting: (list[19] % 256) as u8,
+        from: word(list[20]),
     }
 }
 
@@ -84,5 +90,7 @@ pub fn put_family(family: Family, list: &mut [u64]) -> u64
     list[1] = family.scale as u64;
     list[2] = family.cells as u64;
     put_members(family, list);
+    list[19] = family.waiting as u64;
+    list[20] = family.from as u64;
     0
 }

@@ -30,6 +30,7 @@ use Rattle.kept_spec.proofs.RunLaws.{run-append}
 use Rattle.kept_spec.proofs.StepLaws.{step-decides, step-numbers}
 use Rattle.kept_spec.proofs.Demand3.{demand3, always-moves}
 use Rattle.family_spec.specs.declared.Member.{Member}
+use Rattle.family_spec.specs.declared.Registered.{Registered}
 use Rattle.family_spec.specs.Family.{openWith, memberAt, Terms, terms}
 use Rattle.family_spec.specs.Member.{openingVerdict, StepInputs, callOf, steppingVerdict}
 use Rattle.family_spec.specs.History.{FamilyEvent, FamilyStanding, FamilyMoves, only, MemberEvent, stepping, opened, stepped, Held, held, tellsBy, holdsBy, MemberMoves, balanceTold, openingOf, same, stepOf, openingsOf, stepsOf}
@@ -222,6 +223,11 @@ module _ {t : Terms} {i : ℕ} {h h′ : Held} {m : Member} {space : ℤ} {kept 
     ap balanceTold (opening-tells ∙ ap (λ w. answered w (openBalance kept k)) e),
   )
 
+-- a registration leaves what it holds
+registering-holds : {t : Terms} {i : ℕ} {h h′ : Held} {m : Member} {answer : Registered} → MemberMoves t i h (MemberEvent.registers m answer) h′ → h′ ≡ h
+unfolding holdsBy
+registering-holds p = p .holds
+
 -- a member that is open stays open, is not opened again, and its call is a run of Step
 record Lives (t : Terms) (i : ℕ) (h : Held) (e : MemberEvent) (h′ : Held) : Type 0 where
   still : h′ .member .opened ≡ true
@@ -247,6 +253,7 @@ lives {t} {i} {h} {h′} (MemberEvent.steps m space x answer kept scratch) o p =
     by-verdict : Verdict (steppingVerdict t i m space x) → Lives t i h (MemberEvent.steps m space x answer kept scratch) h′
     by-verdict (passed e) = let q = step-accepted p e in record { still = q .0; none = refl; moves = q .1 }
     by-verdict (failed number place e) = let q = step-refused p e in same-lives o (q .0) refl (q .1)
+lives {t} {i} {h} {h′} (MemberEvent.registers m answer) o p = same-lives o (registering-holds p) refl (λ s. Run.done)
 
 -- ---- a member's history
 
@@ -261,7 +268,7 @@ lives-on o (Run.step {e = e} {es = es} m r) =
     let b = lives-on (a .still) r in
     (ap (λ l. l ++ collect openingOf es) (a .none) ∙ b .0, run-append (a .moves) (b .1))
 
-lives-end : {t : Terms} {i : ℕ} {h h′ : Held} {es : List MemberEvent} → h .member .opened ≡ true → Run (MemberMoves t i) h es h′ → h′ .member .opened ≡ true
+pub lives-end : {t : Terms} {i : ℕ} {h h′ : Held} {es : List MemberEvent} → h .member .opened ≡ true → Run (MemberMoves t i) h es h′ → h′ .member .opened ≡ true
 lives-end o Run.done = o
 lives-end o (Run.step {e = e} m r) = lives-end (lives e o m .still) r
 
@@ -285,6 +292,7 @@ begins-by {t} {i} {h} {h′} (MemberEvent.steps m space x answer kept scratch) o
     let e = closed-step t i m space x (ap (λ n. n .opened) (p .given) ∙ o) in
     Begun.stays (step-refused p e .0) refl
     (ap (λ b. only b (record { call = callOf t m x; answer = answer; kept = kept; scratch = scratch })) (uncounted t i m space x 19 0 e (omega arith)))
+begins-by (MemberEvent.registers m answer) o p = Begun.stays (registering-holds p) refl refl
 
 -- the opening, and the run of Step after it
 record Life (t : Terms) (i : ℕ) (es : List MemberEvent) (end : Held) : Type 0 where

@@ -9,9 +9,9 @@ use Rattle.numbers.specs.declared.Checked.{Checked}
 use Rattle.numbers.specs.declared.Checked.the-variants.{Pass, Fail}
 use Rattle.numbers.specs.Lists.{sum}
 use Rattle.numbers.specs.Signed.{over}
-use Rattle.numbers.specs.Checks.{accepted, answered, after, both}
+use Rattle.numbers.specs.Checks.{Answered, accepted, refused, answered, after, both}
 use Rattle.numbers.proofs.TestLaws.{injective}
-use Rattle.numbers.proofs.CheckLaws.{on, stop, both-assoc, both-pass, first-append, after-fail}
+use Rattle.numbers.proofs.CheckLaws.{on, stop, both-assoc, both-pass, first-append, after-pass, after-fail}
 use Rattle.qlt_spec.specs.Field.{cells, nodes, scratchPerNode, field}
 use Rattle.qlt_spec.specs.Masses.{treeMasses}
 use Rattle.qlt_spec.specs.Operation.{cleared}
@@ -27,11 +27,15 @@ use Rattle.family_spec.specs.declared.Member.{Member}
 use Rattle.family_spec.specs.declared.Family.{Family}
 use Rattle.family_spec.specs.declared.Started.{Started}
 use Rattle.family_spec.specs.declared.Started.the-variants.{Done, Refused}
+use Rattle.family_spec.specs.declared.Registered.{Registered}
+use Rattle.family_spec.specs.declared.Registered.the-variants as registered
 use Rattle.family_spec.specs.declared.FamilyOpened.{FamilyOpened}
 use Rattle.family_spec.specs.declared.FamilyStepped.{FamilyStepped}
-use Rattle.family_spec.specs.Family.{openWith, memberAt, totalOf, put, room, terms}
+use Rattle.family_spec.specs.declared.FamilyRegistered.{FamilyRegistered}
+use Rattle.family_spec.specs.Family.{openWith, memberAt, totalOf, put, schedule, room, terms}
+use Rattle.family_spec.specs.Waiting.{withBit}
 use Rattle.family_spec.specs.Member.{checkClosed, checkOpened, checkSameCells, checkRoom, checkSource, openingVerdict, StepInputs, stepInputs, callOf, steppingVerdict}
-use Rattle.family_spec.specs.Operations.{startTells, startAnswer, openMemberVerdict, OpenMemberContract, taken, stepMemberVerdict, StepMemberContract}
+use Rattle.family_spec.specs.Operations.{startTells, startAnswer, openMemberVerdict, OpenMemberContract, taken, stepMemberVerdict, StepMemberContract, registerVerdict, registerTells, registerAnswer, RegisterContract}
 
 -- ---- start
 
@@ -43,6 +47,32 @@ start-tells-injective = injective startAnswer back
     back : (a : Started) → startAnswer (startTells a) ≡ a
     back Done = refl
     back (Refused number place) = refl
+
+-- ---- register
+
+pub register-answer-tells : (a : Answered Unit) → registerTells (registerAnswer a) ≡ a
+unfolding registerTells
+register-answer-tells (accepted u) = refl
+register-answer-tells (refused number place) = refl
+
+pub register-tells-injective : (a b : Registered) → registerTells a ≡ registerTells b → a ≡ b
+unfolding registerTells
+register-tells-injective = injective registerAnswer back
+  where
+    back : (a : Registered) → registerAnswer (registerTells a) ≡ a
+    back registered.Done = refl
+    back (registered.Refused number place) = refl
+
+module _ (f : Family) (i : ℕ) where
+  pub register-refused : {number place : ℕ} → registerVerdict f i ≡ Fail number place → RegisterContract f i (record { family = f; answer = registered.Refused number place })
+  unfolding registerTells
+  register-refused e = record { answers = ap (λ v. answered v tt) (sym e); gives = after-fail (schedule f (withBit (f .waiting) i) (f .from)) f e }
+
+  pub register-done :
+      {g : Family} → registerVerdict f i ≡ Pass → g ≡ schedule f (withBit (f .waiting) i) (f .from)
+      → RegisterContract f i (record { family = g; answer = registered.Done })
+  unfolding registerTells
+  register-done e q = record { answers = ap (λ v. answered v tt) (sym e); gives = after-pass f e q }
 
 -- ---- open
 
@@ -154,6 +184,12 @@ every-open f i kept k = (
     answer = openAnswer (answered (openMemberVerdict f i kept k) (openBalance kept k));
   },
   record { tells = record { answers = open-answer-tells (answered (openMemberVerdict f i kept k) (openBalance kept k)) }; gives = refl },
+)
+
+pub every-register : (f : Family) (i : ℕ) → (r : FamilyRegistered) × RegisterContract f i r
+every-register f i = (
+  record { family = after (registerVerdict f i) (schedule f (withBit (f .waiting) i) (f .from)) f; answer = registerAnswer (answered (registerVerdict f i) tt) },
+  record { answers = register-answer-tells (answered (registerVerdict f i) tt); gives = refl },
 )
 
 pub every-step : (f : Family) (i : ℕ) (x : StepInputs) → (r : FamilyStepped) × ((kept : List ℕ) × ((scratch : List ℤ) × StepMemberContract f i x r kept scratch))

@@ -2,7 +2,7 @@
 use mathlib.Core.Path.{_≡_, refl, sym, _∙_, subst}
 use mathlib.Core.Logic.{⊎-elim}
 use mathlib.Core.List.{List}
-use Prim.Native.Nat.{ℕ, _+_, _≤_}
+use Prim.Native.Nat.{ℕ, suc, _+_, _%_, _≤_}
 use native.Mathlib.Omega.{arith}
 use lib.IntN.{ℤ, pos, _+ℤ_}
 use lib.Signed.{_≤ℤ_}
@@ -15,12 +15,15 @@ use Rattle.numbers.proofs.SignedLaws.{le-parts, add-parts, one-part, leZ-means}
 use Rattle.kept_spec.specs.Step.{newTotal}
 use Rattle.kept_spec.specs.Run.{Run}
 use Rattle.family_spec.specs.declared.Family.{Family}
-use Rattle.family_spec.specs.Family.{openWith, memberAt, totalOf, put, totals, others, room, terms}
+use Rattle.family_spec.specs.declared.FamilyStepped.{FamilyStepped}
+use Rattle.family_spec.specs.Family.{openWith, memberAt, totalOf, put, schedule, totals, others, room, terms}
+use Rattle.family_spec.specs.Waiting.{withBit, withoutBit}
 use Rattle.family_spec.specs.Member.{StepInputs, callOf}
-use Rattle.family_spec.specs.Operations.{openMemberVerdict, stepMemberVerdict}
+use Rattle.family_spec.specs.Operations.{openMemberVerdict, stepMemberVerdict, StepMemberContract, registerVerdict}
 use Rattle.family_spec.specs.History.{FamilyEvent, FamilyStanding, FamilyMoves}
 use Rattle.family_spec.proofs.RuleLaws.{opening-accepts, stepping-accepts}
 use Rattle.family_spec.proofs.FamilyLaws.{Eight, totals-apart, totals-put, room-fits}
+use Rattle.family_spec.proofs.TurnLaws.{turn-serves, turn-idles}
 use Rattle.family_spec.proofs.MemberLaws.{moves-steady}
 
 abbrev pub Capped : Family → Type 0
@@ -50,11 +53,31 @@ steps-capped f eight c i x Pass e =
     (⊎-elim (λ s. let a = less-by (totalOf f i) (x .source) s in let b = totals-apart f i (z .number) in omega (arith, a, b, c)) (λ s. within f i M s) (z .within))
 steps-capped f eight c i x (Fail n p) e = c
 
+-- a step, by itself or in a turn
+stepped-capped :
+    {f : Family} {i : ℕ} {x : StepInputs} {r : FamilyStepped} {kept : List ℕ} {scratch : List ℤ} → Eight f → Capped f → StepMemberContract f i x r kept scratch
+    → Capped (r .family)
+stepped-capped {f} {i} {x} h c p = subst Capped (sym (p .gives)) (steps-capped f h c i x (stepMemberVerdict f i x) refl)
+
+-- who waits is none of its matter
+schedule-capped : (f : Family) (byte from : ℕ) → Capped f → Capped (schedule f byte from)
+unfolding totals
+schedule-capped f byte from c = c
+
+registers-capped : (f : Family) (byte from : ℕ) → Capped f → (v : Checked) → Capped (after v (schedule f byte from) f)
+registers-capped f byte from c Pass = schedule-capped f byte from c
+registers-capped f byte from c (Fail n p) = c
+
 moves-capped : {s t : FamilyStanding} {e : FamilyEvent} → Eight (s .family) → Capped (s .family) → FamilyMoves s e t → Capped (t .family)
 moves-capped {s} h c (FamilyMoves.opens {i = i} {kept} {k} p) =
     subst Capped (sym (p .gives)) (opens-capped (s .family) h c i kept k (openMemberVerdict (s .family) i kept k) refl)
-moves-capped {s} h c (FamilyMoves.steps {i = i} {x} p q) =
-    subst Capped (sym (p .gives)) (steps-capped (s .family) h c i x (stepMemberVerdict (s .family) i x) refl)
+moves-capped h c (FamilyMoves.steps p q) = stepped-capped h c p
+moves-capped {s} h c (FamilyMoves.registers {i = i} p) =
+    subst Capped (sym (p .gives)) (registers-capped (s .family) (withBit (s .family .waiting) i) (s .family .from) c (registerVerdict (s .family) i))
+moves-capped h c (FamilyMoves.serves {i = i} p q) =
+    let t = turn-serves p in
+    subst Capped (sym (t .ends)) (schedule-capped (t .stepped) (withoutBit (t .stepped .waiting) i) (suc i % 8) (stepped-capped h c (t .contract)))
+moves-capped h c (FamilyMoves.idles p) = subst Capped (sym (turn-idles p .gives)) c
 
 -- ---- every history
 

@@ -20,7 +20,7 @@ use Rattle.numbers.proofs.SignedLaws.{leZ-true, leZ-false, minus-parts, one-par
 use Rattle.numbers.proofs.SumLaws.{sumTo-ext, sumTo-plus, sumTo-one, pick-ext}
 use Rattle.family_spec.specs.declared.Member.{Member}
 use Rattle.family_spec.specs.declared.Family.{Family}
-use Rattle.family_spec.specs.Family.{closed, memberAt, totalOf, put, begun, totals, others, room, terms}
+use Rattle.family_spec.specs.Family.{closed, memberAt, totalOf, put, schedule, begun, totals, others, room, terms}
 use Rattle.family_spec.specs.Member.{checkRoom, checkSource}
 
 -- ---- a family with another member
@@ -56,6 +56,15 @@ pub record Steady (f f′ : Family) : Type 0 where
 pub put-steady : (f : Family) (i : ℕ) (m : Member) (v : Checked) → Steady f (after v (put f i m) f)
 put-steady f i m Pass = record { size = length-set (f .members) i m; cap = refl; terms = refl }
 put-steady f i m (Fail n p) = record { size = refl; cap = refl; terms = refl }
+
+-- another byte of who waits leaves every member and all of these
+pub schedule-members : (f : Family) (byte from : ℕ) (v : Checked) (j : ℕ) → memberAt (after v (schedule f byte from) f) j ≡ memberAt f j
+schedule-members f byte from Pass j = refl
+schedule-members f byte from (Fail n p) j = refl
+
+pub schedule-steady : (f : Family) (byte from : ℕ) (v : Checked) → Steady f (after v (schedule f byte from) f)
+schedule-steady f byte from Pass = record { size = refl; cap = refl; terms = refl }
+schedule-steady f byte from (Fail n p) = record { size = refl; cap = refl; terms = refl }
 
 -- ---- sums of totals
 

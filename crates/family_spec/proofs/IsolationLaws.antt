@@ -12,22 +12,26 @@ use Rattle.numbers.specs.Checks.{answered, after}
 use Rattle.qlt_spec.specs.Field.{nodes, scratchPerNode, field}
 use Rattle.qlt_spec.specs.Masses.{treeMasses}
 use Rattle.qlt_spec.specs.Operation.{cleared}
+use Rattle.kept_spec.specs.declared.Stepped.{Stepped}
 use Rattle.kept_spec.specs.Open.{openBalance}
 use Rattle.kept_spec.specs.Step.{newTotal, stepResult}
 use Rattle.kept_spec.specs.Run.{Run}
 use Rattle.kept_spec.proofs.OpenLaws.{open-tells-injective}
 use Rattle.kept_spec.proofs.StepLaws.{step-tells-injective}
 use Rattle.family_spec.specs.declared.Family.{Family}
+use Rattle.family_spec.specs.declared.Turned.the-variants.{Served}
 use Rattle.family_spec.specs.declared.FamilyStarted.{FamilyStarted}
 use Rattle.family_spec.specs.declared.FamilyOpened.{FamilyOpened}
 use Rattle.family_spec.specs.declared.FamilyStepped.{FamilyStepped}
+use Rattle.family_spec.specs.declared.FamilyRegistered.{FamilyRegistered}
 use Rattle.family_spec.specs.Family.{openWith, memberAt, begun, room, Terms, terms}
-use Rattle.family_spec.specs.Member.{openingVerdict, StepInputs, callOf, steppingVerdict}
-use Rattle.family_spec.specs.Operations.{startVerdict, StartContract, openMemberVerdict, OpenMemberContract, stepMemberVerdict, StepMemberContract}
+use Rattle.family_spec.specs.Member.{checkOpened, openingVerdict, StepInputs, callOf, steppingVerdict}
+use Rattle.family_spec.specs.Operations.{startVerdict, StartContract, openMemberVerdict, OpenMemberContract, stepMemberVerdict, StepMemberContract, RegisterContract, TurnContract}
 use Rattle.family_spec.specs.History.{FamilyEvent, FamilyStanding, FamilyMoves, MemberEvent, callsOf, view, told, Held, held, tellsBy, tellsAll, holdsAll, MemberMoves}
-use Rattle.family_spec.proofs.AnswerLaws.{start-tells-injective}
-use Rattle.family_spec.proofs.FamilyLaws.{Eight, begun-closed, put-here, put-other, Steady, put-steady}
-use Rattle.family_spec.proofs.MemberLaws.{open-number, step-number, run-own}
+use Rattle.family_spec.proofs.AnswerLaws.{start-tells-injective, register-tells-injective}
+use Rattle.family_spec.proofs.FamilyLaws.{Eight, begun-closed, put-here, put-other, Steady}
+use Rattle.family_spec.proofs.TurnLaws.{turn-serves}
+use Rattle.family_spec.proofs.MemberLaws.{open-number, step-number, register-members, open-steady, step-steady, register-steady, run-own}
 
 -- ---- each operation
 
@@ -92,25 +96,51 @@ module _ {f g : Family} {i : ℕ} (a : Alike i f g) (h : Eight f) (k : Eight g) 
         ),
       )
 
+  -- a registration answers alike and gives member i alike
+  pub register-alone :
+      (r r′ : FamilyRegistered) → RegisterContract f i r → RegisterContract g i r′ → (r .answer ≡ r′ .answer) × (memberAt (r .family) i ≡ memberAt (r′ .family) i)
+  register-alone r r′ p q = (
+    register-tells-injective (r .answer) (r′ .answer) (p .answers ∙ ap (λ m. answered (checkOpened i m) tt) (a .member) ∙ sym (q .answers)),
+    register-members p i ∙ a .member ∙ sym (register-members q i),
+  )
+
+  -- turns with the same inputs that serve member i answer alike, leave the same lists and give member i alike, whoever else waits
+  pub turn-alone :
+      {x : StepInputs} {u v : Family} {b c : Stepped} {kept kept′ : List ℕ} {scratch scratch′ : List ℤ}
+      → TurnContract f x (record { family = u; answer = Served i b }) kept scratch → TurnContract g x (record { family = v; answer = Served i c }) kept′ scratch′
+      → (b ≡ c) × ((kept ≡ kept′) × ((scratch ≡ scratch′) × (memberAt u i ≡ memberAt v i)))
+  turn-alone p q =
+      let s = turn-serves p in
+      let t = turn-serves q in
+      let z = step-alone _ _ (s .contract) (t .contract) in
+      (z .0, (z .1 .0, (z .1 .1 .0, ap (λ h. memberAt h i) (s .ends) ∙ z .1 .1 .1 ∙ sym (ap (λ h. memberAt h i) (t .ends)))))
+
 -- and every call leaves the other members, the cap, the scale and the cells
 pub open-others :
     {f : Family} {i : ℕ} {kept : List ℕ} {k : ℕ} (r : FamilyOpened) → Eight f → OpenMemberContract f i kept k r
     → Steady f (r .family) × ((j : ℕ) → j ≢ i → memberAt (r .family) j ≡ memberAt f j)
-open-others {f} {i} {kept} {k} r h p =
-    let v = openMemberVerdict f i kept k in (
-      subst (Steady f) (sym (p .gives)) (put-steady f i (openWith (sum kept)) v),
-      λ j n. ap (λ g. memberAt g j) (p .gives) ∙ put-other f h i (openWith (sum kept)) v j n,
-    )
+open-others {f} {i} {kept} {k} r h p = (open-steady p, λ j n. ap (λ g. memberAt g j) (p .gives) ∙ put-other f h i (openWith (sum kept)) (openMemberVerdict f i kept k) j n)
 
 pub step-others :
     {f : Family} {i : ℕ} {x : StepInputs} (r : FamilyStepped) {kept : List ℕ} {scratch : List ℤ} → Eight f → StepMemberContract f i x r kept scratch
     → Steady f (r .family) × ((j : ℕ) → j ≢ i → memberAt (r .family) j ≡ memberAt f j)
-step-others {f} {i} {x} r h p =
-    let v = stepMemberVerdict f i x in
-    let m = openWith (newTotal (callOf (terms f) (memberAt f i) x)) in (
-      subst (Steady f) (sym (p .gives)) (put-steady f i m v),
-      λ j n. ap (λ g. memberAt g j) (p .gives) ∙ put-other f h i m v j n,
-    )
+step-others {f} {i} {x} r h p = (
+  step-steady p,
+  λ j n. ap (λ g. memberAt g j) (p .gives) ∙ put-other f h i (openWith (newTotal (callOf (terms f) (memberAt f i) x))) (stepMemberVerdict f i x) j n,
+)
+
+-- a registration leaves every member
+pub register-others : {f : Family} {i : ℕ} (r : FamilyRegistered) → RegisterContract f i r → Steady f (r .family) × ((j : ℕ) → memberAt (r .family) j ≡ memberAt f j)
+register-others r p = (register-steady p, register-members p)
+
+-- a turn leaves every member but the one that it serves
+pub turn-others :
+    {f : Family} {x : StepInputs} {g : Family} {i : ℕ} {answer : Stepped} {kept : List ℕ} {scratch : List ℤ} → Eight f
+    → TurnContract f x (record { family = g; answer = Served i answer }) kept scratch → Steady f g × ((j : ℕ) → j ≢ i → memberAt g j ≡ memberAt f j)
+turn-others {f} h p =
+    let t = turn-serves p in
+    let z = step-others _ h (t .contract) in
+    (subst (Steady f) (sym (t .ends)) (record { size = z .0 .size; cap = z .0 .cap; terms = z .0 .terms }), λ j n. ap (λ k. memberAt k j) (t .ends) ∙ z .1 j n)
 
 -- ---- every history
 

@@ -23,14 +23,18 @@ use Rattle.kept_spec.specs.Run.{Run, collect}
 use Rattle.kept_spec.specs.Account.{Accepts}
 use Rattle.kept_spec.proofs.RunLaws.{run-append}
 use Rattle.family_spec.specs.declared.Family.{Family}
+use Rattle.family_spec.specs.declared.Turned.the-variants.{Served}
 use Rattle.family_spec.specs.declared.FamilyOpened.{FamilyOpened}
 use Rattle.family_spec.specs.declared.FamilyStepped.{FamilyStepped}
-use Rattle.family_spec.specs.Family.{openWith, memberAt, room, Terms, terms}
+use Rattle.family_spec.specs.declared.FamilyRegistered.{FamilyRegistered}
+use Rattle.family_spec.specs.Family.{openWith, memberAt, schedule, room, Terms, terms}
+use Rattle.family_spec.specs.Waiting.{withBit}
 use Rattle.family_spec.specs.Member.{StepInputs, callOf}
-use Rattle.family_spec.specs.Operations.{openMemberVerdict, OpenMemberContract, stepMemberVerdict, StepMemberContract}
-use Rattle.family_spec.specs.History.{FamilyEvent, FamilyStanding, place, placeIf, Lends, FamilyMoves, only, MemberEvent, ownOf, callsOf, Held, held, tellsBy, holdsBy, opened, stepped, MemberMoves}
+use Rattle.family_spec.specs.Operations.{openMemberVerdict, OpenMemberContract, stepMemberVerdict, StepMemberContract, registerVerdict, RegisterContract}
+use Rattle.family_spec.specs.History.{FamilyEvent, FamilyStanding, place, placeIf, Lends, FamilyMoves, only, MemberEvent, ownOf, callsOf, Held, held, tellsBy, holdsBy, opened, stepped, registered, MemberMoves}
 use Rattle.family_spec.proofs.RuleLaws.{opening-accepts, stepping-accepts}
-use Rattle.family_spec.proofs.FamilyLaws.{Eight, put-here, put-other, Steady, put-steady}
+use Rattle.family_spec.proofs.FamilyLaws.{Eight, put-here, put-other, Steady, put-steady, schedule-members, schedule-steady}
+use Rattle.family_spec.proofs.TurnLaws.{turn-serves, turn-idles}
 
 -- ---- numbers of members
 
@@ -88,6 +92,10 @@ lends-own : {all all′ : ℕ → List ℕ} {i : ℕ} {given left : List ℕ} {t
 lends-own (Lends.own before rest part whole) a = whole a
 lends-own (Lends.elsewhere h) a = absurd (h a)
 
+-- a registration leaves every member
+pub register-members : {f : Family} {i : ℕ} {r : FamilyRegistered} → RegisterContract f i r → (j : ℕ) → memberAt (r .family) j ≡ memberAt f j
+register-members {f} {i} p j = ap (λ g. memberAt g j) (p .gives) ∙ schedule-members f (withBit (f .waiting) i) (f .from) (registerVerdict f i) j
+
 -- ---- one call
 
 held-path : {h h′ : Held} → h .member ≡ h′ .member → h .kept ≡ h′ .kept → h ≡ h′
@@ -142,14 +150,46 @@ steps-own s {i} {x} {r} {kept} {all = all} eight p q =
     c : StepCall
     c = callOf (terms (s .family)) (memberAt (s .family) i) x
 
+-- a registration: the member is told, and holds what it held
+registers-own :
+    (s : FamilyStanding) {i : ℕ} {r : FamilyRegistered} → RegisterContract (s .family) i r
+    → MemberMoves (terms (s .family)) i (held s i) (MemberEvent.registers (memberAt (s .family) i) (r .answer)) (held (record { family = r .family; kept = s .kept }) i)
+unfolding tellsBy holdsBy
+registers-own s {i} p = record { given = refl; tells = ap registered (p .answers); holds = held-path (register-members p i) refl; lent = tt }
+
+-- ---- what no call changes
+
+pub open-steady : {f : Family} {i : ℕ} {kept : List ℕ} {k : ℕ} {r : FamilyOpened} → OpenMemberContract f i kept k r → Steady f (r .family)
+open-steady {f} {i} {kept} {k} p = subst (Steady f) (sym (p .gives)) (put-steady f i (openWith (sum kept)) (openMemberVerdict f i kept k))
+
+pub step-steady :
+    {f : Family} {i : ℕ} {x : StepInputs} {r : FamilyStepped} {kept : List ℕ} {scratch : List ℤ} → StepMemberContract f i x r kept scratch → Steady f (r .family)
+step-steady {f} {i} {x} p = subst (Steady f) (sym (p .gives)) (put-steady f i (openWith (newTotal (callOf (terms f) (memberAt f i) x))) (stepMemberVerdict f i x))
+
+pub register-steady : {f : Family} {i : ℕ} {r : FamilyRegistered} → RegisterContract f i r → Steady f (r .family)
+register-steady {f} {i} p = subst (Steady f) (sym (p .gives)) (schedule-steady f (withBit (f .waiting) i) (f .from) (registerVerdict f i))
+
 -- ---- every call
 
 pub moves-steady : {s t : FamilyStanding} {e : FamilyEvent} → FamilyMoves s e t → Steady (s .family) (t .family)
-moves-steady {s} (FamilyMoves.opens {i = i} {kept} {k} p) =
-    subst (Steady (s .family)) (sym (p .gives)) (put-steady (s .family) i (openWith (sum kept)) (openMemberVerdict (s .family) i kept k))
-moves-steady {s} (FamilyMoves.steps {i = i} {x} p q) =
-    subst (Steady (s .family)) (sym (p .gives))
-    (put-steady (s .family) i (openWith (newTotal (callOf (terms (s .family)) (memberAt (s .family) i) x))) (stepMemberVerdict (s .family) i x))
+moves-steady (FamilyMoves.opens p) = open-steady p
+moves-steady (FamilyMoves.steps p q) = step-steady p
+moves-steady (FamilyMoves.registers p) = register-steady p
+moves-steady {s} (FamilyMoves.serves p q) =
+    let t = turn-serves p in
+    let z = step-steady (t .contract) in
+    subst (Steady (s .family)) (sym (t .ends)) (record { size = z .size; cap = z .cap; terms = z .terms })
+moves-steady {s} (FamilyMoves.idles p) = subst (Steady (s .family)) (sym (turn-idles p .gives)) (record { size = refl; cap = refl; terms = refl })
+
+-- a step, by itself or in a turn
+steps-run :
+    (i j : ℕ) (s : FamilyStanding) {x : StepInputs} {r : FamilyStepped} {kept : List ℕ} {scratch : List ℤ} {all : ℕ → List ℕ} → Eight (s .family)
+    → StepMemberContract (s .family) j x r kept scratch → Lends (s .kept) j (x .kept) (stepTells (r .answer)) kept all
+    → Run (MemberMoves (terms (s .family)) i) (held s i) (only (eqb j i) (MemberEvent.steps (memberAt (s .family) j) (room (s .family) j) x (r .answer) kept scratch)) (held (record { family = r .family; kept = all }) i)
+steps-run i j s {x} {r} {kept} {scratch} {all} h p q =
+    own-case (eqb j i)
+    (λ b. subst (λ n. MemberMoves (terms (s .family)) n (held s n) (MemberEvent.steps (memberAt (s .family) j) (room (s .family) j) x (r .answer) kept scratch) (held (record { family = r .family; kept = all }) n)) (eqb-true j i b) (steps-own s h p q))
+    (λ b. held-path (ap (λ g. memberAt g i) (p .gives) ∙ put-other (s .family) h j (openWith (newTotal (callOf (terms (s .family)) (memberAt (s .family) j) x))) (stepMemberVerdict (s .family) j x) i (other-number i j b)) (lends-other i b q))
 
 -- a call of the family is a call of the member that it names, and leaves every other member as it was
 pub moves-own : (i : ℕ) {s t : FamilyStanding} {e : FamilyEvent} → Eight (s .family) → FamilyMoves s e t → Run (MemberMoves (terms (s .family)) i) (held s i) (ownOf i e) (held t i)
@@ -157,10 +197,16 @@ moves-own i {s} h (FamilyMoves.opens {i = j} {kept} {k} {r} p) =
     own-case (eqb j i)
     (λ b. subst (λ n. MemberMoves (terms (s .family)) n (held s n) (MemberEvent.opens (memberAt (s .family) j) (room (s .family) j) kept k (r .answer)) (held (record { family = r .family; kept = placeIf (openTells (r .answer)) (s .kept) j kept }) n)) (eqb-true j i b) (opens-own s h p))
     (λ b. held-path (ap (λ g. memberAt g i) (p .gives) ∙ put-other (s .family) h j (openWith (sum kept)) (openMemberVerdict (s .family) j kept k) i (other-number i j b)) (placeIf-other (s .kept) j i kept (openTells (r .answer)) b))
-moves-own i {s} h (FamilyMoves.steps {i = j} {x} {r} {kept} {scratch} {all} p q) =
+moves-own i {s} h (FamilyMoves.steps {i = j} p q) = steps-run i j s h p q
+moves-own i {s} h (FamilyMoves.registers {i = j} {r} p) =
     own-case (eqb j i)
-    (λ b. subst (λ n. MemberMoves (terms (s .family)) n (held s n) (MemberEvent.steps (memberAt (s .family) j) (room (s .family) j) x (r .answer) kept scratch) (held (record { family = r .family; kept = all }) n)) (eqb-true j i b) (steps-own s h p q))
-    (λ b. held-path (ap (λ g. memberAt g i) (p .gives) ∙ put-other (s .family) h j (openWith (newTotal (callOf (terms (s .family)) (memberAt (s .family) j) x))) (stepMemberVerdict (s .family) j x) i (other-number i j b)) (lends-other i b q))
+    (λ b. subst (λ n. MemberMoves (terms (s .family)) n (held s n) (MemberEvent.registers (memberAt (s .family) j) (r .answer)) (held (record { family = r .family; kept = s .kept }) n)) (eqb-true j i b) (registers-own s p))
+    (λ b. held-path (register-members p i) refl)
+moves-own i {s} h (FamilyMoves.serves {x = x} {g} {i = j} {answer} {kept} {scratch} {all} p q) =
+    let t = turn-serves p in
+    subst (λ f. Run (MemberMoves (terms (s .family)) i) (held s i) (ownOf i (FamilyEvent.turns (s .family) x (record { family = g; answer = Served j answer }) kept scratch)) (held (record { family = f; kept = all }) i)) (sym (t .ends))
+    (steps-run i j s h (t .contract) q)
+moves-own i {s} h (FamilyMoves.idles p) = subst (λ f. Run (MemberMoves (terms (s .family)) i) (held s i) [] (held (record { family = f; kept = s .kept }) i)) (sym (turn-idles p .gives)) Run.done
 
 -- every history of the family is, for each member, a history of its own
 pub run-own : (i : ℕ) {s t : FamilyStanding} {es : List FamilyEvent} → Eight (s .family) → Run FamilyMoves s es t → Run (MemberMoves (terms (s .family)) i) (held s i) (callsOf i es) (held t i)

@@ -15,7 +15,7 @@ use Rattle.numbers.specs.Lists.{sum, All}
 use Rattle.numbers.specs.Checks.{first, Decides, rule, DecidesAll, Holds, Broken, RefuseWith, Extends}
 use Rattle.numbers.proofs.TestLaws.{and-means, le-means, eq-means}
 use Rattle.numbers.proofs.SignedLaws.{parts-le, leZ-means}
-use Rattle.numbers.proofs.CheckLaws.{first-append, decides-unless, decides-then, decides-append, decides-none, count-decides, scale-decides}
+use Rattle.numbers.proofs.CheckLaws.{both-pass, first-append, decides-unless, decides-then, decides-append, decides-none, count-decides, scale-decides}
 use Rattle.numbers.proofs.ChainLaws.{Passes, pass-all, all-pass, extends-pass, extends-fail, refuse-with}
 use Rattle.qlt_spec.specs.Field.{cells}
 use Rattle.qlt_spec.specs.Operation.{shapeRules, valueRules}
@@ -28,7 +28,7 @@ use Rattle.kept_spec.proofs.StepLaws.{same-scale-decides, step-decides-with, st
 use Rattle.family_spec.specs.declared.Member.{Member}
 use Rattle.family_spec.specs.Family.{Terms}
 use Rattle.family_spec.specs.Member.{checkClosed, checkOpened, checkSameCells, checkRoom, checkSource, openingChecks, openingVerdict, StepInputs, callOf, steppingChecks, steppingVerdict}
-use Rattle.family_spec.specs.Rules.{startRules, StartFits, openingRules, OpeningFits, SourceFits, steppingRules, SteppingFits}
+use Rattle.family_spec.specs.Rules.{startRules, StartFits, openingRules, OpeningFits, SourceFits, steppingRules, SteppingFits, registeringRules, RegisteringFits}
 use Rattle.family_spec.specs.Operations.{startVerdict}
 
 not-means : (b : Bool) → (not b ≡ true) ↔ (b ≡ false)
@@ -242,3 +242,21 @@ module _ (t : Terms) (i : ℕ) (m : Member) (space : ℤ) (x : StepInputs) where
   pub stepping-numbers : RefuseWith (steppingRules t i m space x) (19 ∷ 1 ∷ 2 ∷ 3 ∷ 17 ∷ 4 ∷ 5 ∷ 6 ∷ 7 ∷ 12 ∷ 13 ∷ 20 ∷ 8 ∷ [])
   unfolding shapeRules valueRules
   stepping-numbers = refuse-with (steppingRules t i m space x) _ refl refl
+
+-- ---- a registration
+
+module _ (i : ℕ) (m : Member) where
+  pub registering-decides : DecidesAll (checkOpened i m) (registeringRules i m)
+  registering-decides = subst (λ v. DecidesAll v (registeringRules i m)) (both-pass (checkOpened i m)) (decides-then _ _ _ _ (opened-decides i m) decides-none)
+
+  pub registering-accepts : (checkOpened i m ≡ Pass) ↔ RegisteringFits i m
+  registering-accepts = (
+    λ e. let h = opened-decides i m .passes .0 e in record { number = h .0; is-open = h .1 },
+    λ f. opened-decides i m .passes .1 (f .number, f .is-open),
+  )
+
+  pub registering-refuses : (number place : ℕ) → (checkOpened i m ≡ Fail number place) ↔ Broken (registeringRules i m) number place
+  registering-refuses = registering-decides .fails
+
+  pub registering-numbers : RefuseWith (registeringRules i m) (19 ∷ [])
+  registering-numbers = refuse-with (registeringRules i m) _ refl refl

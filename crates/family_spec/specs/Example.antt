@@ -1,16 +1,20 @@
 -- A concrete history of two members under one cap of 20, so that histories are not empty talk: two openings, steps that are accepted and one that
 -- is refused with 20, an opening of an open member, a step of one that is not open, an opening that would pass the cap, a step lent a part of its
--- masses and one lent the other member's. Assumes nothing.
+-- masses and one lent the other member's; then both register, one of them twice, and turns serve them in turn, one of them refused; an idle turn;
+-- and one that goes round. Assumes nothing.
 use mathlib.Core.List.{List, [], _∷_}
 use Prim.Native.Nat.{ℕ}
 use lib.IntN.{ℤ, pos, negsuc}
 use lib.ListN.{replicate}
 use Rattle.kept_spec.specs.declared.Balance.{Balance}
 use Rattle.kept_spec.specs.declared.Opened.the-variants as opened
+use Rattle.kept_spec.specs.declared.Stepped.{Stepped}
 use Rattle.kept_spec.specs.declared.Stepped.the-variants as stepped
 use Rattle.kept_spec.specs.Example.{two}
 use Rattle.family_spec.specs.declared.Family.{Family}
-use Rattle.family_spec.specs.Family.{openWith, put, begun}
+use Rattle.family_spec.specs.declared.Registered.the-variants as registered
+use Rattle.family_spec.specs.declared.Turned.the-variants.{Idle, Served}
+use Rattle.family_spec.specs.Family.{openWith, put, schedule, begun}
 use Rattle.family_spec.specs.Member.{StepInputs, stepInputs}
 use Rattle.family_spec.specs.History.{FamilyEvent, FamilyStanding, place}
 
@@ -33,6 +37,25 @@ full = put grown 1 (openWith 10)
 abbrev less : Family
 less = put full 0 (openWith 6)
 
+-- member 1 waits; both wait; member 0 is served, with 10; and member 1, refused; member 0 waits again, and is served, with 6
+abbrev later : Family
+later = schedule less 2 0
+
+abbrev busy : Family
+busy = schedule less 3 0
+
+abbrev pub turned : Family
+turned = schedule (put less 0 (openWith 10)) 2 1
+
+abbrev idle : Family
+idle = schedule (put less 0 (openWith 10)) 0 2
+
+abbrev again : Family
+again = schedule (put less 0 (openWith 10)) 1 2
+
+abbrev pub over : Family
+over = schedule less 0 1
+
 abbrev balance : ℕ → Balance
 balance total = record { total = total; scale = 20 }
 
@@ -47,67 +70,118 @@ openingRefused f i kept number = FamilyEvent.opens f i kept 20 (record { family 
 abbrev inputs : List ℕ → ℤ → StepInputs
 inputs kept source = stepInputs kept source 20 two (replicate 12 (pos 1))
 
+abbrev pub told : ℕ → Stepped
+told total = stepped.Accepted (record { outcome = 0; total = total; change = 2; shared = 2 }) (balance total)
+
 abbrev stepping : Family → ℕ → List ℕ → ℤ → ℕ → Family → List ℕ → FamilyEvent
 stepping f i kept source total g masses =
     FamilyEvent.steps f i (inputs kept source)
-    (record { family = g; answer = stepped.Accepted (record { outcome = 0; total = total; change = 2; shared = 2 }) (balance total) }) masses (replicate 12 (pos 0))
+    (record { family = g; answer = told total }) masses (replicate 12 (pos 0))
 
 abbrev steppingRefused : Family → ℕ → List ℕ → ℤ → ℕ → FamilyEvent
 steppingRefused f i kept source number =
     FamilyEvent.steps f i (inputs kept source) (record { family = f; answer = stepped.Refused number 0 }) kept (replicate 12 (pos 1))
 
 -- both are opened
-abbrev pub first : FamilyEvent
-first = opening none 0 (3 ∷ 5 ∷ []) 8 one
+abbrev pub call1 : FamilyEvent
+call1 = opening none 0 (3 ∷ 5 ∷ []) 8 one
 
-abbrev pub second : FamilyEvent
-second = opening one 1 (2 ∷ 2 ∷ []) 4 both
+abbrev pub call2 : FamilyEvent
+call2 = opening one 1 (2 ∷ 2 ∷ []) 4 both
 
 -- member 0 gains 2; for member 1 a source of 7 would pass the cap, and 6 does not
-abbrev pub third : FamilyEvent
-third = stepping both 0 (3 ∷ 5 ∷ []) (pos 2) 10 grown (4 ∷ 6 ∷ [])
+abbrev pub call3 : FamilyEvent
+call3 = stepping both 0 (3 ∷ 5 ∷ []) (pos 2) 10 grown (4 ∷ 6 ∷ [])
 
-abbrev pub fourth : FamilyEvent
-fourth = steppingRefused grown 1 (2 ∷ 2 ∷ []) (pos 7) 20
+abbrev pub call4 : FamilyEvent
+call4 = steppingRefused grown 1 (2 ∷ 2 ∷ []) (pos 7) 20
 
-abbrev pub fifth : FamilyEvent
-fifth = stepping grown 1 (2 ∷ 2 ∷ []) (pos 6) 10 full (4 ∷ 6 ∷ [])
+abbrev pub call5 : FamilyEvent
+call5 = stepping grown 1 (2 ∷ 2 ∷ []) (pos 6) 10 full (4 ∷ 6 ∷ [])
 
 -- an open member, a number above 7 and a member that is not open; an opening that would pass the cap
-abbrev pub sixth : FamilyEvent
-sixth = openingRefused full 0 (3 ∷ 5 ∷ []) 19
+abbrev pub call6 : FamilyEvent
+call6 = openingRefused full 0 (3 ∷ 5 ∷ []) 19
 
-abbrev pub seventh : FamilyEvent
-seventh = openingRefused full 8 (3 ∷ 5 ∷ []) 19
+abbrev pub call7 : FamilyEvent
+call7 = openingRefused full 8 (3 ∷ 5 ∷ []) 19
 
-abbrev pub eighth : FamilyEvent
-eighth = steppingRefused full 2 [] (pos 0) 19
+abbrev pub call8 : FamilyEvent
+call8 = steppingRefused full 2 [] (pos 0) 19
 
-abbrev pub ninth : FamilyEvent
-ninth = openingRefused full 2 (1 ∷ 0 ∷ []) 20
+abbrev pub call9 : FamilyEvent
+call9 = openingRefused full 2 (1 ∷ 0 ∷ []) 20
 
 -- a part of the masses, and other masses than those of member 0
-abbrev pub tenth : FamilyEvent
-tenth = steppingRefused full 0 (6 ∷ []) (pos 0) 3
+abbrev pub call10 : FamilyEvent
+call10 = steppingRefused full 0 (6 ∷ []) (pos 0) 3
 
-abbrev pub eleventh : FamilyEvent
-eleventh = steppingRefused full 0 (5 ∷ 4 ∷ []) (pos 0) 12
+abbrev pub call11 : FamilyEvent
+call11 = steppingRefused full 0 (5 ∷ 4 ∷ []) (pos 0) 12
 
 -- member 0 loses 4
-abbrev pub twelfth : FamilyEvent
-twelfth = stepping full 0 (4 ∷ 6 ∷ []) (negsuc 3) 6 less (2 ∷ 4 ∷ [])
+abbrev pub call12 : FamilyEvent
+call12 = stepping full 0 (4 ∷ 6 ∷ []) (negsuc 3) 6 less (2 ∷ 4 ∷ [])
+
+-- registrations: of member 1, of member 1 again, of member 0, and of one that is not open
+abbrev registering : Family → ℕ → Family → FamilyEvent
+registering f i g = FamilyEvent.registers f i (record { family = g; answer = registered.Done })
+
+abbrev pub call13 : FamilyEvent
+call13 = registering less 1 later
+
+abbrev pub call14 : FamilyEvent
+call14 = registering later 1 later
+
+abbrev pub call15 : FamilyEvent
+call15 = registering later 0 busy
+
+abbrev pub call16 : FamilyEvent
+call16 = FamilyEvent.registers busy 2 (record { family = busy; answer = registered.Refused 19 0 })
+
+-- a step outside a turn serves nobody
+abbrev pub call17 : FamilyEvent
+call17 = stepping busy 0 (2 ∷ 4 ∷ []) (pos 0) 6 busy (2 ∷ 4 ∷ [])
+
+-- member 0 is served and gains 4; member 1 is served, and refused; nobody waits
+abbrev pub call18 : FamilyEvent
+call18 =
+    FamilyEvent.turns busy (inputs (2 ∷ 4 ∷ []) (pos 4))
+    (record { family = turned; answer = Served 0 (told 10) }) (4 ∷ 6 ∷ []) (replicate 12 (pos 0))
+
+abbrev pub call19 : FamilyEvent
+call19 =
+    FamilyEvent.turns turned (inputs (4 ∷ 6 ∷ []) (pos 1)) (record { family = idle; answer = Served 1 (stepped.Refused 20 0) }) (4 ∷ 6 ∷ []) (replicate 12 (pos 1))
+
+abbrev pub call20 : FamilyEvent
+call20 = FamilyEvent.turns idle (inputs [] (pos 0)) (record { family = idle; answer = Idle }) [] (replicate 12 (pos 1))
+
+-- member 0 registers, and the search from member 2 on goes round to it
+abbrev pub call21 : FamilyEvent
+call21 = registering idle 0 again
+
+abbrev pub call22 : FamilyEvent
+call22 =
+    FamilyEvent.turns again (inputs (4 ∷ 6 ∷ []) (negsuc 3))
+    (record { family = over; answer = Served 0 (told 6) }) (2 ∷ 4 ∷ []) (replicate 12 (pos 0))
 
 abbrev pub events : List FamilyEvent
-events = first ∷ second ∷ third ∷ fourth ∷ fifth ∷ sixth ∷ seventh ∷ eighth ∷ ninth ∷ tenth ∷ eleventh ∷ twelfth ∷ []
+events =
+    call1 ∷ call2 ∷ call3 ∷ call4 ∷ call5 ∷ call6 ∷ call7 ∷ call8 ∷ call9 ∷ call10 ∷ call11 ∷ call12 ∷ call13 ∷ call14 ∷ call15 ∷ call16 ∷ call17
+    ∷ call18 ∷ call19 ∷ call20 ∷ call21 ∷ call22 ∷ []
 
 abbrev pub begin : FamilyStanding
 begin = record { family = none; kept = λ i. [] }
 
--- what each call left in its member's place, in turn: at the end member 0 has 2 and 4, member 1 has 4 and 6
-abbrev left : ℕ → List ℕ
-left =
+-- what each call left in its member's place, one after another: before the turns, as at the end, member 0 has 2 and 4, member 1 has 4 and 6
+abbrev before : ℕ → List ℕ
+before =
     place (place (place (place (place (place (place (λ i. []) 0 (3 ∷ 5 ∷ [])) 1 (2 ∷ 2 ∷ [])) 0 (4 ∷ 6 ∷ [])) 1 (2 ∷ 2 ∷ [])) 1 (4 ∷ 6 ∷ [])) 0 (4 ∷ 6 ∷ []))
     0 (2 ∷ 4 ∷ [])
 
+-- and after the turns
+abbrev left : ℕ → List ℕ
+left = place (place (place (place before 0 (2 ∷ 4 ∷ [])) 0 (4 ∷ 6 ∷ [])) 1 (4 ∷ 6 ∷ [])) 0 (2 ∷ 4 ∷ [])
+
 abbrev pub last : FamilyStanding
-last = record { family = less; kept = left }
+last = record { family = over; kept = left }

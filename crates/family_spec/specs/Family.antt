@@ -1,4 +1,4 @@
--- A family of up to 8 kept fields: its members, the sum of their totals, and the room that the others leave to one. Assumes nothing.
+-- A family of up to 8 kept fields: its members, the sum of their totals, the room that the others leave to one, and who waits. Assumes nothing.
 use mathlib.Core.Bool.{true, false, not}
 use Prim.Native.Nat.{ℕ}
 use lib.Dec.{eqb}
@@ -24,11 +24,15 @@ totalOf f i = memberAt f i .total
 
 -- the family with m for member i
 abbrev pub put : Family → ℕ → Member → Family
-put f i m = record { cap = f .cap; scale = f .scale; cells = f .cells; members = set (f .members) i m }
+put f i m = record { cap = f .cap; scale = f .scale; cells = f .cells; members = set (f .members) i m; waiting = f .waiting; from = f .from }
 
--- a family of which nobody is open
+-- the family with another byte of who waits and another member from which the search begins
+abbrev pub schedule : Family → ℕ → ℕ → Family
+schedule f byte from = record { cap = f .cap; scale = f .scale; cells = f .cells; members = f .members; waiting = byte; from = from }
+
+-- a family of which nobody is open and nobody waits; the search begins from member 0
 abbrev pub begun : ℕ → ℕ → ℕ → Family
-begun cap scale cells = record { cap = cap; scale = scale; cells = cells; members = replicate 8 closed }
+begun cap scale cells = record { cap = cap; scale = scale; cells = cells; members = replicate 8 closed; waiting = 0; from = 0 }
 
 -- the sum of the totals of all members, and of all but i
 unfoldable pub totals : Family → ℕ

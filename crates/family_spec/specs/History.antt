@@ -1,5 +1,5 @@
 -- Histories of a family: any list of calls from an accepted start, each given the family as the last one left it. The kept masses of each
--- member stand in a place of their own, which is lent to its calls alone. Assumes nothing.
+-- member stand in a place of their own, which is lent to its calls alone. A turn is a call of the member that it serves. Assumes nothing.
 use mathlib.Core.Path.{_≡_}
 use mathlib.Core.Bool.{Bool, true, false, cond, _&&_}
 use mathlib.Core.List.{List, [], _∷_, _++_}
@@ -22,18 +22,25 @@ use Rattle.kept_spec.specs.Run.{collect}
 use Rattle.kept_spec.specs.Account.{Event, Accepts}
 use Rattle.family_spec.specs.declared.Member.{Member}
 use Rattle.family_spec.specs.declared.Family.{Family}
+use Rattle.family_spec.specs.declared.Registered.{Registered}
+use Rattle.family_spec.specs.declared.Turned.{Turned}
+use Rattle.family_spec.specs.declared.Turned.the-variants.{Idle, Served}
 use Rattle.family_spec.specs.declared.FamilyOpened.{FamilyOpened}
 use Rattle.family_spec.specs.declared.FamilyStepped.{FamilyStepped}
+use Rattle.family_spec.specs.declared.FamilyRegistered.{FamilyRegistered}
+use Rattle.family_spec.specs.declared.FamilyTurned.{FamilyTurned}
 use Rattle.family_spec.specs.Family.{openWith, memberAt, room, Terms}
-use Rattle.family_spec.specs.Member.{openingVerdict, StepInputs, callOf, steppingVerdict}
-use Rattle.family_spec.specs.Operations.{OpenMemberContract, StepMemberContract}
+use Rattle.family_spec.specs.Member.{checkOpened, openingVerdict, StepInputs, callOf, steppingVerdict}
+use Rattle.family_spec.specs.Operations.{OpenMemberContract, StepMemberContract, registerTells, RegisterContract, TurnContract}
 
 -- ---- the family's history
 
--- a call of member i with the family given, what it was lent, and what it gave and left
+-- a call, of member i or a turn, with the family given, what it was lent, and what it gave and left
 pub data FamilyEvent : Type 0 where
   opens : (f : Family) (i : ℕ) (kept : List ℕ) (k : ℕ) (r : FamilyOpened) → FamilyEvent
   steps : (f : Family) (i : ℕ) (x : StepInputs) (r : FamilyStepped) (kept : List ℕ) (scratch : List ℤ) → FamilyEvent
+  registers : (f : Family) (i : ℕ) (r : FamilyRegistered) → FamilyEvent
+  turns : (f : Family) (x : StepInputs) (r : FamilyTurned) (kept : List ℕ) (scratch : List ℤ) → FamilyEvent
 
 -- what stands between calls: the family, and the kept masses of each member
 pub record FamilyStanding : Type 0 where
@@ -54,7 +61,7 @@ pub data Lends (all : ℕ → List ℕ) (i : ℕ) (given : List ℕ) (told : Ans
   own : (before rest : List ℕ) → all i ≡ before ++ (given ++ rest) → (Accepts told → given ≡ all i) → Lends all i given told left (place all i (before ++ (left ++ rest)))
   elsewhere : (Accepts told → ⊥) → Lends all i given told left all
 
--- each call is given the family standing and keeps its contract
+-- each call is given the family standing and keeps its contract; a turn that serves a member is lent masses as that member's steps are
 pub data FamilyMoves : FamilyStanding → FamilyEvent → FamilyStanding → Type 0 where
   opens : {s : FamilyStanding} {i : ℕ} {kept : List ℕ} {k : ℕ} {r : FamilyOpened}
       → OpenMemberContract (s .family) i kept k r
@@ -62,6 +69,14 @@ pub data FamilyMoves : FamilyStanding → FamilyEvent → FamilyStanding → Typ
   steps : {s : FamilyStanding} {i : ℕ} {x : StepInputs} {r : FamilyStepped} {kept : List ℕ} {scratch : List ℤ} {all : ℕ → List ℕ}
       → StepMemberContract (s .family) i x r kept scratch → Lends (s .kept) i (x .kept) (stepTells (r .answer)) kept all
       → FamilyMoves s (FamilyEvent.steps (s .family) i x r kept scratch) (record { family = r .family; kept = all })
+  registers : {s : FamilyStanding} {i : ℕ} {r : FamilyRegistered}
+      → RegisterContract (s .family) i r → FamilyMoves s (FamilyEvent.registers (s .family) i r) (record { family = r .family; kept = s .kept })
+  serves : {s : FamilyStanding} {x : StepInputs} {g : Family} {i : ℕ} {answer : Stepped} {kept : List ℕ} {scratch : List ℤ} {all : ℕ → List ℕ}
+      → TurnContract (s .family) x (record { family = g; answer = Served i answer }) kept scratch → Lends (s .kept) i (x .kept) (stepTells answer) kept all
+      → FamilyMoves s (FamilyEvent.turns (s .family) x (record { family = g; answer = Served i answer }) kept scratch) (record { family = g; kept = all })
+  idles : {s : FamilyStanding} {x : StepInputs} {g : Family} {kept : List ℕ} {scratch : List ℤ}
+      → TurnContract (s .family) x (record { family = g; answer = Idle }) kept scratch
+      → FamilyMoves s (FamilyEvent.turns (s .family) x (record { family = g; answer = Idle }) kept scratch) (record { family = g; kept = s .kept })
 
 -- ---- a member's history
 
@@ -73,10 +88,18 @@ only false x = []
 pub data MemberEvent : Type 0 where
   opens : (m : Member) (space : ℤ) (kept : List ℕ) (k : ℕ) (answer : Opened) → MemberEvent
   steps : (m : Member) (space : ℤ) (x : StepInputs) (answer : Stepped) (kept : List ℕ) (scratch : List ℤ) → MemberEvent
+  registers : (m : Member) (answer : Registered) → MemberEvent
+
+-- a turn that serves member j is a step of j
+abbrev pub ownTurn : ℕ → Family → StepInputs → Turned → List ℕ → List ℤ → List MemberEvent
+ownTurn i f x Idle kept scratch = []
+ownTurn i f x (Served j answer) kept scratch = only (eqb j i) (MemberEvent.steps (memberAt f j) (room f j) x answer kept scratch)
 
 abbrev pub ownOf : ℕ → FamilyEvent → List MemberEvent
 ownOf i (FamilyEvent.opens f j kept k r) = only (eqb j i) (MemberEvent.opens (memberAt f j) (room f j) kept k (r .answer))
 ownOf i (FamilyEvent.steps f j x r kept scratch) = only (eqb j i) (MemberEvent.steps (memberAt f j) (room f j) x (r .answer) kept scratch)
+ownOf i (FamilyEvent.registers f j r) = only (eqb j i) (MemberEvent.registers (memberAt f j) (r .answer))
+ownOf i (FamilyEvent.turns f x r kept scratch) = ownTurn i f x (r .answer) kept scratch
 
 abbrev pub callsOf : ℕ → List FamilyEvent → List MemberEvent
 callsOf i es = collect (ownOf i) es
@@ -85,19 +108,23 @@ callsOf i es = collect (ownOf i) es
 pub data View : Type 0 where
   opening : (space : ℤ) (kept : List ℕ) (k : ℕ) → View
   stepping : (space : ℤ) (x : StepInputs) → View
+  registering : View
 
 abbrev pub view : MemberEvent → View
 view (MemberEvent.opens m space kept k answer) = opening space kept k
 view (MemberEvent.steps m space x answer kept scratch) = stepping space x
+view (MemberEvent.registers m answer) = registering
 
 -- what it is told: the answer, and what its call left in the lists lent
 pub data Told : Type 0 where
   opened : Answered Balance → Told
   stepped : Answered StepResult → List ℕ → List ℤ → Told
+  registered : Answered Unit → Told
 
 abbrev pub told : MemberEvent → Told
 told (MemberEvent.opens m space kept k answer) = opened (openTells answer)
 told (MemberEvent.steps m space x answer kept scratch) = stepped (stepTells answer) kept scratch
+told (MemberEvent.registers m answer) = registered (registerTells answer)
 
 -- what it holds: whether it is open, its total and its masses
 pub record Held : Type 0 where
@@ -115,6 +142,7 @@ tellsBy t i m (stepping space x) =
     let c = callOf t m x in
     stepped (answered v (stepResult c)) (after v (treeMasses (field (x .lists)) (newTotal c)) (x .kept))
     (after v (cleared (scratchPerNode * nodes (x .lists)) (x .scratch)) (x .scratch))
+tellsBy t i m registering = registered (answered (checkOpened i m) tt)
 
 unfoldable pub holdsBy : Terms → ℕ → Held → View → Held
 holdsBy t i h (opening space kept k) =
@@ -124,6 +152,7 @@ holdsBy t i h (stepping space x) =
     let v = steppingVerdict t i (h .member) space x in
     let M = newTotal (callOf t (h .member) x) in
     record { member = after v (openWith M) (h .member); kept = after v (treeMasses (field (x .lists)) M) (h .kept) }
+holdsBy t i h registering = h
 
 -- the same of a list of calls
 unfoldable pub tellsAll : Terms → ℕ → Held → List View → List Told
@@ -139,10 +168,12 @@ holdsAll t i h (v ∷ vs) = holdsAll t i (holdsBy t i h v) vs
 abbrev pub memberOf : MemberEvent → Member
 memberOf (MemberEvent.opens m space kept k answer) = m
 memberOf (MemberEvent.steps m space x answer kept scratch) = m
+memberOf (MemberEvent.registers m answer) = m
 
 abbrev pub LentOwn : MemberEvent → List ℕ → Type 0
 LentOwn (MemberEvent.opens m space kept k answer) masses = Unit
 LentOwn (MemberEvent.steps m space x answer kept scratch) masses = Accepts (stepTells answer) → x .kept ≡ masses
+LentOwn (MemberEvent.registers m answer) masses = Unit
 
 pub record MemberMoves (t : Terms) (i : ℕ) (h : Held) (e : MemberEvent) (h′ : Held) : Type 0 where
   pub given : memberOf e ≡ h .member
@@ -160,6 +191,7 @@ balanceTold (refused number place) = []
 abbrev pub openingOf : MemberEvent → List Balance
 openingOf (MemberEvent.opens m space kept k answer) = balanceTold (openTells answer)
 openingOf (MemberEvent.steps m space x answer kept scratch) = []
+openingOf (MemberEvent.registers m answer) = []
 
 -- its Steps: the calls of which Step by itself says the same. A refusal with 19 or 20 or for another n is the family's own.
 unfoldable pub same : Checked → Checked → Bool
@@ -172,9 +204,36 @@ abbrev pub stepOf : Terms → ℕ → MemberEvent → List Event
 stepOf t i (MemberEvent.opens m space kept k answer) = []
 stepOf t i (MemberEvent.steps m space x answer kept scratch) =
     only (same (steppingVerdict t i m space x) (stepVerdict (callOf t m x))) (record { call = callOf t m x; answer = answer; kept = kept; scratch = scratch })
+stepOf t i (MemberEvent.registers m answer) = []
 
 abbrev pub openingsOf : ℕ → List FamilyEvent → List Balance
 openingsOf i es = collect openingOf (callsOf i es)
 
 abbrev pub stepsOf : Terms → ℕ → List FamilyEvent → List Event
 stepsOf t i es = collect (stepOf t i) (callsOf i es)
+
+-- ---- turns
+
+-- the turns among calls, idle ones too
+abbrev pub turnsOf : FamilyEvent → List Turned
+turnsOf (FamilyEvent.opens f i kept k r) = []
+turnsOf (FamilyEvent.steps f i x r kept scratch) = []
+turnsOf (FamilyEvent.registers f i r) = []
+turnsOf (FamilyEvent.turns f x r kept scratch) = r .answer ∷ []
+
+abbrev pub turnsIn : List FamilyEvent → List Turned
+turnsIn es = collect turnsOf es
+
+-- whom they served, in their order: outside a turn nobody is served
+abbrev pub servedBy : Turned → List ℕ
+servedBy Idle = []
+servedBy (Served i answer) = i ∷ []
+
+abbrev pub servedOf : FamilyEvent → List ℕ
+servedOf (FamilyEvent.opens f i kept k r) = []
+servedOf (FamilyEvent.steps f i x r kept scratch) = []
+servedOf (FamilyEvent.registers f i r) = []
+servedOf (FamilyEvent.turns f x r kept scratch) = servedBy (r .answer)
+
+abbrev pub servedIn : List FamilyEvent → List ℕ
+servedIn es = collect servedOf es

@@ -1,8 +1,9 @@
 -- The operations of a family: what each answers, the family that it gives, and the lists that it leaves. A refused call gives the family back
--- as it came and writes no list. Assumes nothing.
+-- as it came and writes no list; a turn is never refused itself, and the step that it calls may be. Assumes nothing.
 use mathlib.Core.Path.{_≡_}
 use mathlib.Core.List.{List, [], _∷_}
-use Prim.Native.Nat.{ℕ}
+use Prim.Native.Nat.{ℕ, suc, _%_}
+use lib.Count.{ones}
 use lib.IntN.{ℤ}
 use Rattle.numbers.specs.declared.Checked.{Checked}
 use Rattle.numbers.specs.Lists.{sum}
@@ -12,11 +13,19 @@ use Rattle.kept_spec.specs.Step.{newTotal, StepResult, StepBy}
 use Rattle.family_spec.specs.declared.Family.{Family}
 use Rattle.family_spec.specs.declared.Started.{Started}
 use Rattle.family_spec.specs.declared.Started.the-variants.{Done, Refused}
+use Rattle.family_spec.specs.declared.Registered.{Registered}
+use Rattle.family_spec.specs.declared.Registered.the-variants as registered
+use Rattle.family_spec.specs.declared.NextMember.{NextMember}
+use Rattle.family_spec.specs.declared.NextMember.the-variants as next
+use Rattle.family_spec.specs.declared.Turned.the-variants.{Idle, Served}
 use Rattle.family_spec.specs.declared.FamilyStarted.{FamilyStarted}
 use Rattle.family_spec.specs.declared.FamilyOpened.{FamilyOpened}
 use Rattle.family_spec.specs.declared.FamilyStepped.{FamilyStepped}
-use Rattle.family_spec.specs.Family.{openWith, memberAt, put, begun, room, terms}
-use Rattle.family_spec.specs.Member.{openingVerdict, StepInputs, callOf, steppingVerdict}
+use Rattle.family_spec.specs.declared.FamilyRegistered.{FamilyRegistered}
+use Rattle.family_spec.specs.declared.FamilyTurned.{FamilyTurned}
+use Rattle.family_spec.specs.Family.{openWith, memberAt, put, schedule, begun, room, terms}
+use Rattle.family_spec.specs.Waiting.{withBit, withoutBit, firstWaiting}
+use Rattle.family_spec.specs.Member.{checkOpened, openingVerdict, StepInputs, callOf, steppingVerdict}
 
 -- ---- start: 1; 9
 
@@ -60,3 +69,58 @@ stepMemberVerdict f i x = steppingVerdict (terms f) i (memberAt f i) (room f i) 
 pub record StepMemberContract (f : Family) (i : ℕ) (x : StepInputs) (r : FamilyStepped) (kept : List ℕ) (scratch : List ℤ) : Type 0 where
   pub tells : StepBy (stepMemberVerdict f i x) (callOf (terms f) (memberAt f i) x) (r .answer) kept scratch
   pub gives : r .family ≡ after (stepMemberVerdict f i x) (put f i (openWith (newTotal (callOf (terms f) (memberAt f i) x)))) f
+
+-- ---- register, of member i: 19
+
+abbrev pub registerVerdict : Family → ℕ → Checked
+registerVerdict f i = checkOpened i (memberAt f i)
+
+unfoldable pub registerTells : Registered → Answered Unit
+registerTells registered.Done = accepted tt
+registerTells (registered.Refused number place) = refused number place
+
+abbrev pub registerAnswer : Answered Unit → Registered
+registerAnswer (accepted u) = registered.Done
+registerAnswer (refused number place) = registered.Refused number place
+
+-- it waits from then on; the search begins where it did
+pub record RegisterContract (f : Family) (i : ℕ) (r : FamilyRegistered) : Type 0 where
+  pub answers : registerTells (r .answer) ≡ answered (registerVerdict f i) tt
+  pub gives : r .family ≡ after (registerVerdict f i) (schedule f (withBit (f .waiting) i) (f .from)) f
+
+-- ---- the next in turn, and the number waiting: both read the family alone
+
+-- 'the first waiting after the last one served, going round' (02)
+unfoldable pub nextMember : Family → NextMember
+nextMember f = firstWaiting (f .waiting) (f .from) 8
+
+-- 'the count of set bits in the waiting byte' (02)
+abbrev pub waitingCount : Family → ℕ
+waitingCount f = ones (f .waiting)
+
+-- ---- turn
+
+-- the family after member i was served: its waiting has ended, and the search begins after it
+abbrev pub serve : Family → ℕ → Family
+serve f i = schedule f (withoutBit (f .waiting) i) (suc i % 8)
+
+-- nobody waits: nothing changes
+pub record IdleTurn (f : Family) (x : StepInputs) (r : FamilyTurned) (kept : List ℕ) (scratch : List ℤ) : Type 0 where
+  pub answers : r .answer ≡ Idle
+  pub gives : r .family ≡ f
+  pub keeps : kept ≡ x .kept
+  pub leaves : scratch ≡ x .scratch
+
+-- member i is served: its step is called, accepted or not
+pub record ServingTurn (f : Family) (i : ℕ) (x : StepInputs) (r : FamilyTurned) (kept : List ℕ) (scratch : List ℤ) : Type 0 where
+  pub step : FamilyStepped
+  pub contract : StepMemberContract f i x step kept scratch
+  pub answers : r .answer ≡ Served i (step .answer)
+  pub gives : r .family ≡ serve (step .family) i
+
+abbrev pub TurnBy : NextMember → Family → StepInputs → FamilyTurned → List ℕ → List ℤ → Type 0
+TurnBy next.Nobody f x r kept scratch = IdleTurn f x r kept scratch
+TurnBy (next.Member i) f x r kept scratch = ServingTurn f i x r kept scratch
+
+pub record TurnContract (f : Family) (x : StepInputs) (r : FamilyTurned) (kept : List ℕ) (scratch : List ℤ) : Type 0 where
+  pub serves-next : TurnBy (nextMember f) f x r kept scratch

@@ -62,3 +62,13 @@ pub record SteppingFits (t : Terms) (i : ℕ) (m : Member) (space : ℤ) (x : St
   pub same-cells : cells (x .lists) ≡ t .cells
   pub stepping : StepFits (callOf t m x)
   pub within : SourceFits t m space x
+
+-- ---- a registration
+
+abbrev pub registeringRules : ℕ → Member → List Rule
+registeringRules i m = rule 19 ((i ≤ 7) × (m .opened ≡ true)) ∷ []
+
+-- one that breaks none
+pub record RegisteringFits (i : ℕ) (m : Member) : Type 0 where
+  pub number : i ≤ 7
+  pub is-open : m .opened ≡ true

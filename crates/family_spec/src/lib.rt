@@ -1,5 +1,5 @@
-// Families of kept fields under one cap (02): what Start, Open and Step of a member check, answer and give back, histories of these calls, and
-// the theorems about every history. Definitions (specs/) and laws (proofs/) alone; the code is in the crate `family`. Relies on `kept_spec`,
+// Families of kept fields under one cap, with turns (02): what Start, Open, Step and Register of a member and Turn check, answer and give back,
+// histories of these calls, and the theorems about every history. Definitions (specs/) and laws (proofs/) alone; the code is in the crate `family`. Relies on `kept_spec`,
 // `qlt_spec` and `numbers`.
 
 // What a family holds of a member: whether it is open, and its total, 0 for one that is not.
@@ -8,18 +8,42 @@ pub struct Member {
     pub total: u32,
 }
 
-// A family by value: the cap on the sum of the totals, the scale and the number of cells of every member, and the members.
+// A family by value: the cap on the sum of the totals, the scale and the number of cells of every member, the members, who of them waits (bit i
+// is member i's), and the member with which the search for the next one begins.
 pub struct Family {
     pub cap: u64,
     pub scale: u32,
     pub cells: u32,
     pub members: [Member; 8],
+    pub waiting: u8,
+    pub from: u32,
 }
 
 // The answer of a start.
 pub enum Started {
     Done,
     Refused { number: u32, place: u32 },
+}
+
+// The answer of a registration.
+pub enum Registered {
+    Done,
+    Refused { number: u32, place: u32 },
+}
+
+// Who is next in turn.
+pub enum NextMember {
+    Member(u32),
+    Nobody,
+}
+
+// The answer of a turn: nobody waited, or the member that it served and the answer of that member's step.
+pub enum Turned {
+    Idle,
+    Served {
+        member: u32,
+        stepped: kept_spec::Stepped,
+    },
 }
 
 // What each call gives: its answer, and the family for the next call.
@@ -36,4 +60,14 @@ pub struct FamilyOpened {
 pub struct FamilyStepped {
     pub family: Family,
     pub answer: kept_spec::Stepped,
+}
+
+pub struct FamilyRegistered {
+    pub family: Family,
+    pub answer: Registered,
+}
+
+pub struct FamilyTurned {
+    pub family: Family,
+    pub answer: Turned,
 }

@@ -1,4 +1,4 @@
-// The calls: a member and a kind drawn, an opening or a step made, and what it told counted.
+// The calls: a member and a kind drawn, an opening, a registration, a step or a turn made, and what it told counted.
 ghost use Prim.Native.Nat.{_≤_};
 use crate::Run;
 use crate::faults::given_cells;
@@ -13,11 +13,16 @@ use crate::masses::draw_masses;
 use crate::masses::fill_with;
 use crate::masses::load;
 use crate::masses::store;
+use crate::waits::idle;
+use crate::waits::served;
 use family::open_member;
 use family::step_member;
 use family_spec::Family;
 use family_spec::FamilyOpened;
-use family_spec::FamilyStepped;
+use family_spec::FamilyTurned;
+use family_spec::NextMember;
+use family_spec::Registered;
+use family_spec::Turned;
 use kept_spec::Opened;
 use kept_spec::Stepped;
 use qlt_spec::Repair;
@@ -26,6 +31,10 @@ use test_support::fields::cross;
 use test_support::fields::fill;
 use test_support::fields::fill_parents;
 use test_support::fields::nodes;
+use turns::next_member;
+use turns::register;
+use turns::turn;
+use turns::waiting_count;
 
 // One more. Counters stay below 1000000000.
 fn more(x: u32) -> u32 {
@@ -44,7 +53,7 @@ fn taken_member(told: u64, opened: bool, total: u32) -> u64 {
 }
 
 // The check number with every member of a family.
-fn taken_family(told: u64, family: Family) -> u64 {
+fn taken_members(told: u64, family: Family) -> u64 {
     let mut now = told;
     let mut j: usize = 0;
     while j < 8 {
@@ -52,6 +61,24 @@ fn taken_family(told: u64, family: Family) -> u64 {
         j += 1;
     }
     now
+}
+
+// The next in turn, or 8 for nobody.
+fn next_number(family: Family) -> u32 {
+    match next_member(family) {
+        NextMember::Member(member) => member,
+        NextMember::Nobody => 8,
+    }
+}
+
+// The check number with a family: its members, who waits, where the search begins, the next in turn and the number waiting.
+fn taken_family(told: u64, family: Family) -> u64 {
+    let members = taken_members(told, family);
+    let waits = taken(taken(members, family.waiting as u64), family.from as u64);
+    taken(
+        taken(waits, next_number(family) as u64),
+        waiting_count(family) as u64,
+    )
 }
 
 // The run after an accepted call that told this and shared this out.
@@ -66,11 +93,12 @@ fn accepted(run: Run, state: u32, family: Family, told: u64, shared: u64) -> Run
     }
 }
 
-// The run after a refused call, which is counted by its number.
+// The run after a refused call that told this and its refusal, which is counted by its number.
 fn refused(
     run: Run,
     state: u32,
     family: Family,
+    told: u64,
     number: u32,
     place: u32,
     counts: &mut [u32; 21],
@@ -78,13 +106,25 @@ fn refused(
     if number < 21 {
         counts[number as usize] = more(counts[number as usize]);
     }
-    let told = taken(taken(run.told, number as u64), place as u64);
+    let with_refusal = taken(taken(told, number as u64), place as u64);
     Run {
         state,
         family,
         accepted: run.accepted,
         refused: more(run.refused),
-        told: taken_family(told, family),
+        told: taken_family(with_refusal, family),
+        shared: run.shared,
+    }
+}
+
+// The run after an idle turn.
+fn idled(run: Run, state: u32, family: Family) -> Run {
+    Run {
+        state,
+        family,
+        accepted: run.accepted,
+        refused: run.refused,
+        told: taken_family(taken(run.told, 8), family),
         shared: run.shared,
     }
 }
@@ -135,7 +175,40 @@ fn open_call(
             accepted(run, drawn.state, opened.family, told, 0)
         }
         Opened::Refused { number, place } => {
-            refused(run, drawn.state, opened.family, number, place, counts)
+            refused(
+                run,
+                drawn.state,
+                opened.family,
+                run.told,
+                number,
+                place,
+                counts,
+            )
+        }
+    }
+}
+
+// Registers the member, or a number that no member has.
+fn register_call(run: Run, state: u32, member: u32, counts: &mut [u32; 21]) -> Run {
+    let drawn = draw(state, 8);
+    let given = given_number(member, drawn.value == 0);
+    let registered = register(run.family, given);
+    let answer = registered.answer;
+    match answer {
+        Registered::Done => {
+            let told = taken(run.told, given as u64);
+            accepted(run, drawn.state, registered.family, told, 0)
+        }
+        Registered::Refused { number, place } => {
+            refused(
+                run,
+                drawn.state,
+                registered.family,
+                run.told,
+                number,
+                place,
+                counts,
+            )
         }
     }
 }
@@ -146,9 +219,11 @@ fn taken_repair(told: u64, repair: Repair) -> u64 {
     taken(taken(first, repair.change), repair.shared)
 }
 
-// Steps by the first cells of the targets, the first nodes of the parents, and a scratch of its own.
+// Steps a member, or the next in turn, by the first cells of the targets, the first nodes of the parents, and a scratch of its own; what a step by
+// itself tells is given as a turn that served its member.
 fn step_by(
     family: Family,
+    by_turn: bool,
     number: u32,
     masses: &mut [u32; 8],
     source: i32,
@@ -163,13 +238,29 @@ fn step_by(
     cells: usize,
     m: usize,
     length: usize,
-) -> FamilyStepped
+) -> FamilyTurned
     requires { ⌜ (cells ≤ 8) × (m ≤ 15) × (length ≤ 60) ⌝ }
 {
     let mut scratch = [0i64; 60];
     let all_targets = &targets[..];
     let all_parents = &parents[..];
-    step_member(
+    if by_turn {
+        return turn(
+            family,
+            masses,
+            source,
+            scale,
+            &all_targets[0..cells],
+            lows,
+            highs,
+            safe_lows,
+            safe_highs,
+            weights,
+            &all_parents[0..m],
+            &mut scratch[0..length],
+        );
+    }
+    let step = step_member(
         family,
         number,
         masses,
@@ -183,20 +274,74 @@ fn step_by(
         weights,
         &all_parents[0..m],
         &mut scratch[0..length],
-    )
+    );
+    let stepped = step.answer;
+    let after = step.family;
+    FamilyTurned {
+        family: after,
+        answer: Turned::Served {
+            member: number,
+            stepped,
+        },
+    }
 }
 
-// Draws a field, and steps the member by it.
+// The member whose masses are lent: the one drawn, or in a turn the next, if there is one.
+fn lent_member(family: Family, member: u32, by_turn: bool) -> u32 {
+    let next = next_number(family);
+    if by_turn && next < 8 { next } else { member }
+}
+
+// The run after a step that told this; if it was accepted, its masses are stored.
+fn stepped_run(
+    run: Run,
+    state: u32,
+    family: Family,
+    told: u64,
+    answer: Stepped,
+    masses: &[u32; 8],
+    lent: u32,
+    kept: &mut [u32; 64],
+    counts: &mut [u32; 21],
+) -> Run {
+    match answer {
+        Stepped::Accepted { repair, balance: _ } => {
+            store(masses, lent, kept);
+            accepted(
+                run,
+                state,
+                family,
+                taken_repair(told, repair),
+                repair.shared,
+            )
+        }
+        Stepped::Refused { number, place } => {
+            refused(run, state, family, told, number, place, counts)
+        }
+    }
+}
+
+// Counts a turn that served a member; a step by itself is none.
+fn count_turn(by_turn: bool, turns: &mut [u32; 11], waiting: u8, member: u32) {
+    if by_turn {
+        served(turns, waiting, member);
+    }
+}
+
+// Draws a field, and steps the member by it, or in a turn the next one.
 fn step_call(
     run: Run,
     state: u32,
     member: u32,
+    by_turn: bool,
     kept: &mut [u32; 64],
+    turns: &mut [u32; 11],
     counts: &mut [u32; 21],
 ) -> Run {
     let kind = draw(state, 3);
+    let lent = lent_member(run.family, member, by_turn);
     let mut masses = [0u32; 8];
-    load(kept, member, &mut masses);
+    load(kept, lent, &mut masses);
     let mut targets = [0i32; 8];
     let mut lows = [0u32; 8];
     let mut highs = [0u32; 8];
@@ -221,8 +366,9 @@ fn step_call(
     let mut parents = [0u32; 15];
     fill_parents(kind.value, fault == 7, &mut parents);
     let m = nodes(kind.value);
-    let stepped = step_by(
+    let turned = step_by(
         run.family,
+        by_turn,
         given_number(member, fault == 1),
         &mut masses,
         given_source(source.value, fault),
@@ -238,30 +384,51 @@ fn step_call(
         given_nodes(m, fault),
         given_scratch(m, fault),
     );
-    let answer = stepped.answer;
+    let answer = turned.answer;
     match answer {
-        Stepped::Accepted { repair, balance: _ } => {
-            store(&masses, member, kept);
-            accepted(
+        Turned::Idle => {
+            idle(turns);
+            idled(run, drawn.state, turned.family)
+        }
+        Turned::Served { member, stepped } => {
+            count_turn(by_turn, turns, run.family.waiting, member);
+            stepped_run(
                 run,
                 drawn.state,
-                stepped.family,
-                taken_repair(run.told, repair),
-                repair.shared,
+                turned.family,
+                taken(run.told, member as u64),
+                stepped,
+                &masses,
+                lent,
+                kept,
+                counts,
             )
-        }
-        Stepped::Refused { number, place } => {
-            refused(run, drawn.state, stepped.family, number, place, counts)
         }
     }
 }
 
-// Makes an opening or a step of a member.
-pub fn one_call(run: Run, kept: &mut [u32; 64], counts: &mut [u32; 21]) -> Run {
+// Makes an opening, a registration or a step of a member, or a turn.
+pub fn one_call(
+    run: Run,
+    kept: &mut [u32; 64],
+    turns: &mut [u32; 11],
+    counts: &mut [u32; 21],
+) -> Run {
     let member = draw(run.state, 8);
-    let kind = draw(member.state, 8);
-    if kind.value == 0 {
+    let kind = draw(member.state, 16);
+    if kind.value < 2 {
         return open_call(run, kind.state, member.value, kept, counts);
     }
-    step_call(run, kind.state, member.value, kept, counts)
+    if kind.value < 6 {
+        return register_call(run, kind.state, member.value, counts);
+    }
+    step_call(
+        run,
+        kind.state,
+        member.value,
+        kind.value < 10,
+        kept,
+        turns,
+        counts,
+    )
 }

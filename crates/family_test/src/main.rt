@@ -1,21 +1,24 @@
-// A test program: families of 8 members under one cap. It makes three starts that are refused and one that is accepted, over 8 cells at scale 20
-// with a cap of 66000, and from that family 16,000 openings and steps of members and with fields drawn by a generator, most openings and some
-// steps with a fault, so that every number that these calls refuse with occurs; after every 2,000 calls it starts again from that family. It prints
-// a line every 500 calls: the members open, the calls accepted and refused, the sum of the totals, the sum and a check number of all kept masses, a
-// check number of all that was told and of the family after every call, and what the accepted steps have shared out; and at the end how many calls
-// were refused with each number. The sum must be the sum of the totals and at most 66000 in every line. `stdout` was written by an implementation of
-// the papers' own words in another language, and not by this program. Numbers stay far below the remainders by which overflow is ruled out.
-// Relies on `family`, which it tests, `family_spec`, `kept_spec` and `qlt_spec` for the answers, `test_support`, `io` and `libc`, and `numbers` in
-// proofs.
+// A test program: families of 8 members under one cap, with turns. It makes three starts that are refused and one that is accepted, over 8 cells at
+// scale 20 with a cap of 66000, and from that family 16,000 openings, registrations and steps of members, some of these by turns, with fields drawn
+// by a generator, most openings and some other calls with a fault, so that every number that these calls refuse with occurs; after every 2,000 calls
+// it starts again from that family. It prints a line every 500 calls: the members open and those that wait, the turns that served a member and the
+// idle ones, the longest that a member has waited, in turns with its own, the calls accepted and refused, the sum of the totals, the sum and a check
+// number of all kept masses, a check number of all that was told and of the family after every call, with the next in turn and the number waiting,
+// and what the accepted steps have shared out; and at the end how many calls were refused with each number. In every line the sum must be the sum of
+// the totals and at most 66000, and the longest wait at most 8. `stdout` was written by an implementation of the papers' own words in another
+// language, and not by this program. Numbers stay far below the remainders by which overflow is ruled out. Relies on `turns` and `family`, which it
+// tests, `family_spec`, `kept_spec` and `qlt_spec` for the answers, `test_support`, `io` and `libc`, and `numbers` in proofs.
 use calls::one_call;
 use family::start_family;
 use family_spec::Family;
 use family_spec::Started;
+use waits::forget;
 
 mod calls;
 mod faults;
 mod masses;
 mod output;
+mod waits;
 
 // The generator's state, the family standing, the calls accepted and refused so far, the check number of what was told, and what the accepted
 // steps have shared out.
@@ -29,24 +32,35 @@ pub struct Run {
 }
 
 // Makes 500 calls.
-fn some_calls(run: Run, kept: &mut [u32; 64], counts: &mut [u32; 21]) -> Run {
+fn some_calls(
+    run: Run,
+    kept: &mut [u32; 64],
+    turns: &mut [u32; 11],
+    counts: &mut [u32; 21],
+) -> Run {
     let mut now = run;
     let mut i: usize = 0;
     while i < 500 {
-        now = one_call(now, kept, counts);
+        now = one_call(now, kept, turns, counts);
         i += 1;
     }
     now
 }
 
 // Makes 4 times 500 calls, and prints a line after each 500.
-fn more_calls(run: Run, done: u64, kept: &mut [u32; 64], counts: &mut [u32; 21]) -> Run {
+fn more_calls(
+    run: Run,
+    done: u64,
+    kept: &mut [u32; 64],
+    turns: &mut [u32; 11],
+    counts: &mut [u32; 21],
+) -> Run {
     let mut now = run;
     let mut i: u64 = 0;
     while i < 4 {
-        now = some_calls(now, kept, counts);
+        now = some_calls(now, kept, turns, counts);
         i += 1;
-        output::show(done % 1000000 + i * 500, now, kept);
+        output::show(done % 1000000 + i * 500, now, kept, turns);
     }
     now
 }
@@ -73,10 +87,12 @@ fn all_calls(family: Family, counts: &mut [u32; 21]) {
         told: 0,
         shared: 0,
     };
+    let mut turns = [0u32; 11];
     let mut i: u64 = 0;
     while i < 8 {
         let mut kept = [0u32; 64];
-        now = more_calls(afresh(now, family), i * 2000, &mut kept, counts);
+        forget(&mut turns);
+        now = more_calls(afresh(now, family), i * 2000, &mut kept, &mut turns, counts);
         i += 1;
     }
 }

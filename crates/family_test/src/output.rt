@@ -9,6 +9,7 @@ use test_support::output::print_check;
 use test_support::output::print_named;
 use test_support::output::print_number;
 use test_support::output::wide;
+use turns::waiting_count;
 
 // What Start gave.
 pub fn show_started(answer: Started) {
@@ -53,9 +54,13 @@ fn totals(family: Family) -> u64 {
 }
 
 // The line of a run.
-pub fn show(calls: u64, run: Run, kept: &[u32; 64]) {
+pub fn show(calls: u64, run: Run, kept: &[u32; 64], turns: &[u32; 11]) {
     print_named(b"calls", calls);
     print_named(b" open", open_members(run.family));
+    print_named(b" waiting", wide(waiting_count(run.family)));
+    print_named(b" served", wide(turns[8]));
+    print_named(b" idle", wide(turns[9]));
+    print_named(b" longest", wide(turns[10]));
     print_named(b" accepted", wide(run.accepted));
     print_named(b" refused", wide(run.refused));
     print_named(b" totals", totals(run.family));

@@ -1,5 +1,5 @@
-// The calls from C, a static library. `include/legzhuro.h` documents them. Public: the thirteen functions here; what they share is in `returns`
-// and in `call_values`, the work of the file call in `whole`, that of the calls on a family in `family_calls`. Relies on every operation and on
+// The calls from C, a static library. `include/legzhuro.h` documents them. Public: the seventeen functions here; what they share is in `returns`
+// and in `call_values`, the work of the file call in `whole`, that of the calls on a family in `family_calls` and `turn_calls`. Relies on every operation and on
 // `repair_file` and `numbers`.
 ghost use Rattle.caas_spec.specs.Operation.{splitCall};
 ghost use Rattle.qlt_spec.specs.Field.{lists};
@@ -8,6 +8,7 @@ ghost use Rattle.bounds_spec.specs.Bounds.{mixing, bounds, boundsCall};
 ghost use Rattle.files_spec.specs.WriteField.{fieldWriteCall};
 ghost use Rattle.family_spec.specs.Member.{stepInputs};
 ghost use Rattle.family_calls.specs.Calls.{FamilyStartReturns, FamilyOpenReturns, FamilyStepReturns};
+ghost use Rattle.turn_calls.specs.TurnCalls.{FamilyRegisterReturns, FamilyNextReturns, FamilyWaitingReturns, FamilyTurnReturns};
 ghost use Rattle.legzhuro_c.specs.Calls.{ReconstructReturns, SplitReturns, OpenReturns, StepReturns, BoundsReturns, ImportReturns, ExportReturns, SingleReturns};
 ghost use Rattle.legzhuro_c.specs.FileCalls.{WriteFieldReturns, ReadAnswerReturns};
 use bounds_spec::Bounded;
@@ -358,6 +359,73 @@ pub extern "C" fn legzhuro_family_step(
     family_calls::step(
         family,
         member,
+        kept,
+        source,
+        scale,
+        targets,
+        lows,
+        highs,
+        safe_lows,
+        safe_highs,
+        weights,
+        parents,
+        scratch,
+        answer,
+    )
+}
+
+// Register a member of a family as waiting.
+#[no_mangle]
+pub extern "C" fn legzhuro_family_register(family: &mut [u64], member: u32) -> u64
+    ensures { λ r. ⌜ FamilyRegisterReturns (now (family .entry)) member r (now (family .exit)) ⌝ }
+{
+    turn_calls::register(family, member)
+}
+
+// Read the next in turn: answer[0] is the member, or 8 for nobody.
+#[no_mangle]
+pub extern "C" fn legzhuro_family_next(family: &[u64], answer: &mut [u64]) -> u64
+    ensures { λ r. ⌜ FamilyNextReturns (now (family .entry)) (now (answer .entry)) r (now (answer .exit)) ⌝ }
+{
+    turn_calls::next(family, answer)
+}
+
+// Read how many members wait: answer[0] is their number.
+#[no_mangle]
+pub extern "C" fn legzhuro_family_waiting(family: &[u64], answer: &mut [u64]) -> u64
+    ensures { λ r. ⌜ FamilyWaitingReturns (now (family .entry)) (now (answer .entry)) r (now (answer .exit)) ⌝ }
+{
+    turn_calls::waiting(family, answer)
+}
+
+// Serve the next in turn: answer[0] is the member, or 8 for idle, answer[1] what its step returned, answer[2] the outcome, answer[3] the new
+// total, answer[4] the change, answer[5] what was shared out.
+#[no_mangle]
+pub extern "C" fn legzhuro_family_turn(
+    family: &mut [u64],
+    kept: &mut [u32],
+    source: i32,
+    scale: u32,
+    targets: &[i32],
+    lows: &[u32],
+    highs: &[u32],
+    safe_lows: &[u32],
+    safe_highs: &[u32],
+    weights: &[u32],
+    parents: &[u32],
+    scratch: &mut [i64],
+    answer: &mut [u64],
+) -> u64
+    ensures { λ r.
+        ⌜ FamilyTurnReturns (now (family .entry))
+        (stepInputs (now (kept .entry)) source scale
+        (lists (now (targets .entry)) (now (lows .entry)) (now (highs .entry)) (now («safe_lows» .entry)) (now («safe_highs» .entry))
+        (now (weights .entry)) (now (parents .entry)))
+        (now (scratch .entry)))
+        (now (answer .entry)) r (now (family .exit)) (now (kept .exit)) (now (scratch .exit)) (now (answer .exit)) ⌝ }
+{
+    turn_calls::turn(
+        family,
         kept,
         source,
         scale,

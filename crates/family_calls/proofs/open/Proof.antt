@@ -2,23 +2,25 @@
 use mathlib.Core.Path.{_≡_, sym, _∙_, subst}
 use Rattle.numbers.specs.declared.Checked.the-variants.{Pass}
 use Rattle.family_spec.specs.Operations.{OpenMemberContract}
+use Rattle.call_values.specs.Values.{openValues}
 use Rattle.family_calls.specs.List.{familyIn}
-use Rattle.family_calls.proofs.CallLaws.{openRoom, open-room-refused, open-family, open-answer, open-done, open-refused}
+use Rattle.family_calls.specs.Calls.{callRoom}
+use Rattle.family_calls.proofs.CallLaws.{room-family, room-answer, open-room-refused, open-done, open-refused}
 use borrow.Author.Needs.{needs}
 use Rattle.family_calls.proofs.open.Statement.{statement}
 use Rattle.family_calls.proofs.open.Tie as tie
 
 -- the lists of a call that goes on are long enough
-passed : (c : tie.After-enum-told) → let a = c .before .before .before .before .before .before .args in openRoom (a .family .now) (a .answer .now) ≡ Pass
-passed c = sym (c .before .before .open-room .ensures) ∙ c .enum-told .given .1
+passed : (c : tie.After-enum-told) → let a = c .before .before .before .before .before .before .args in callRoom (a .family .now) (a .answer .now) openValues ≡ Pass
+passed c = sym (c .before .before .call-room .ensures) ∙ c .enum-told .given .1
 
 -- what the operation promises, of the family in the list
 promised : (c : tie.After-open-member) → let a = c .before .before .before .before .before .before .before .before .before .args in OpenMemberContract (familyIn (a .family .now)) (a .member) (a .kept .now) (a .scale) (c .open-member .result)
 promised c = let a = c .before .before .before .before .before .before .before .before .before .args in
     subst (λ f. OpenMemberContract f (a .member) (a .kept .now) (a .scale) (c .open-member .result)) (c .before .read-family .ensures) (c .open-member .ensures)
 
-open-room-requires : tie.Need-open-room-requires
-open-room-requires c κs = search needs
+call-room-requires : tie.Need-call-room-requires
+call-room-requires c κs = search needs
 
 enum-known-room : tie.Need-enum-known-room
 enum-known-room c = search needs
@@ -27,13 +29,13 @@ refusal-requires : tie.Need-refusal-requires
 refusal-requires c κs = search needs
 
 returns : tie.Need-returns
-returns c = let a = c .before .before .before .before .before .before .before .before .args in open-room-refused (a .family .now) (a .member) (a .kept .now) (a .scale) (a .answer .now) (sym (c .before .before .before .before .open-room .ensures) ∙ c .before .before .room .given .1) (c .refusal .ensures)
+returns c = let a = c .before .before .before .before .before .before .before .before .args in open-room-refused (a .family .now) (a .member) (a .kept .now) (a .scale) (a .answer .now) (sym (c .before .before .before .before .call-room .ensures) ∙ c .before .before .room .given .1) (c .refusal .ensures)
 
 enum-told : tie.Need-enum-told
 enum-told c = search needs
 
 read-family-requires : tie.Need-read-family-requires
-read-family-requires c κs = let a = c .before .before .before .before .before .before .before .args in open-family (a .family .now) (a .member) (a .kept .now) (a .scale) (a .answer .now) (passed (c .before))
+read-family-requires c κs = let a = c .before .before .before .before .before .before .before .args in room-family (a .family .now) (a .answer .now) openValues (passed (c .before))
 
 open-member-requires : tie.Need-open-member-requires
 open-member-requires c κs = search needs
@@ -42,10 +44,10 @@ enum-known-told : tie.Need-enum-known-told
 enum-known-told c = search needs
 
 put-family-requires : tie.Need-put-family-requires
-put-family-requires c κs = let a = c .before .before .before .before .before .before .before .before .before .before .before .before .before .args in open-family (a .family .now) (a .member) (a .kept .now) (a .scale) (a .answer .now) (passed (c .before .before .before .before .before .before .before))
+put-family-requires c κs = let a = c .before .before .before .before .before .before .before .before .before .before .before .before .before .args in room-family (a .family .now) (a .answer .now) openValues (passed (c .before .before .before .before .before .before .before))
 
 put-balance-requires : tie.Need-put-balance-requires
-put-balance-requires c κs = let a = c .before .before .before .before .before .before .before .before .before .before .before .before .before .before .before .before .before .args in open-answer (a .family .now) (a .member) (a .kept .now) (a .scale) (a .answer .now) (passed (c .before .before .before .before .before .before .before .before .before .before .before))
+put-balance-requires c κs = let a = c .before .before .before .before .before .before .before .before .before .before .before .before .before .before .before .before .before .args in room-answer (a .family .now) (a .answer .now) openValues (passed (c .before .before .before .before .before .before .before .before .before .before .before))
 
 enum-known-told-2 : tie.Need-enum-known-told-2
 enum-known-told-2 c = search needs
@@ -77,7 +79,7 @@ pub open-spec : {M : Type 1} → statement M
 open-spec =
     tie.close
     (tie.spec
-    open-room-requires
+    call-room-requires
     enum-known-room
     refusal-requires
     returns

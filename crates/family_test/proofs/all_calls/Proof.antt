@@ -6,13 +6,16 @@ use Rattle.family_test.proofs.all_calls.Statement.{statement}
 use Rattle.family_test.proofs.all_calls.Tie as tie
 
 abbrev Inv-loop : tie.InvT-loop
-Inv-loop family counts₀ now₀ i₀ counts now i = Unit
+Inv-loop family counts₀ now₀ turns₀ i₀ counts now turns i = Unit
 
 abbrev μ-loop : tie.MeasureT-loop
-μ-loop family counts₀ now₀ i₀ counts now i = 8 - i
+μ-loop family counts₀ now₀ turns₀ i₀ counts now turns i = 8 - i
 
 loop-holds : tie.Need-loop-holds Inv-loop μ-loop
 loop-holds c = tt
+
+forget-requires : tie.Need-forget-requires Inv-loop μ-loop
+forget-requires c κs = search needs
 
 afresh-requires : tie.Need-afresh-requires Inv-loop μ-loop
 afresh-requires c κs = search needs
@@ -42,6 +45,7 @@ all-calls-spec =
     Inv-loop
     μ-loop
     loop-holds
+    forget-requires
     afresh-requires
     mul-more-calls
     more-calls-requires

@@ -1,9 +1,9 @@
--- `family_test::calls::taken_family` is safe and ends: it takes in 8 members.
+-- `family_test::calls::taken_members` is safe and ends: it takes in 8 members.
 use Prim.Native.Nat.{_-_}
 use native.Mathlib.Omega.{arith}
 use borrow.Author.Needs.{needs}
-use Rattle.family_test.proofs.calls.taken_family.Statement.{statement}
-use Rattle.family_test.proofs.calls.taken_family.Tie as tie
+use Rattle.family_test.proofs.calls.taken_members.Statement.{statement}
+use Rattle.family_test.proofs.calls.taken_members.Tie as tie
 
 abbrev Inv-loop : tie.InvT-loop
 Inv-loop told family now₀ j₀ now j = Unit
@@ -41,8 +41,8 @@ loop-again c = tt
 returns : tie.Need-returns Inv-loop μ-loop
 returns c = search needs
 
-pub taken-family-spec : {M : Type 1} → statement M
-taken-family-spec =
+pub taken-members-spec : {M : Type 1} → statement M
+taken-members-spec =
     tie.close
     (tie.spec
     Inv-loop

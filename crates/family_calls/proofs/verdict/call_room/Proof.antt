@@ -1,10 +1,10 @@
--- `family_calls::verdict::open_room` meets its contract: both checks in their order.
+-- `family_calls::verdict::call_room` meets its contract: both checks in their order.
 use mathlib.Core.Path.{sym, _∙_, ap₂}
 use Rattle.numbers.specs.Checks.{both}
 use Rattle.numbers.proofs.CheckLaws.{both-pass}
 use borrow.Author.Needs.{needs}
-use Rattle.family_calls.proofs.verdict.open_room.Statement.{statement}
-use Rattle.family_calls.proofs.verdict.open_room.Tie as tie
+use Rattle.family_calls.proofs.verdict.call_room.Statement.{statement}
+use Rattle.family_calls.proofs.verdict.call_room.Tie as tie
 
 check-long-requires : tie.Need-check-long-requires
 check-long-requires c κs = search needs
@@ -18,6 +18,6 @@ then-requires c κs = search needs
 returns : tie.Need-returns
 returns c = c .then .ensures ∙ ap₂ both (c .before .before .check-long .ensures) (c .before .check-long2 .ensures ∙ sym (both-pass _))
 
-pub open-room-spec : {M : Type 1} → statement M
-open-room-spec =
+pub call-room-spec : {M : Type 1} → statement M
+call-room-spec =
     tie.close (tie.spec check-long-requires check-long-requires-2 then-requires returns)

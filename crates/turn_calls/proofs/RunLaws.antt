@@ -1,13 +1,14 @@
--- Histories of the calls from C are histories of the operations, so the theorems about every history hold of them. A call whose list for the
--- values is too short is refused before its operation is called, and leaves everything. Assumes nothing.
+-- Histories of the calls from C on a family are histories of the operations, so the theorems about every history hold of them. A call whose list
+-- for the values is too short is refused before its operation is called, and leaves everything. Assumes nothing.
 use mathlib.Core.Path.{_≡_, refl, sym, _∙_, ap, subst}
+use mathlib.Core.Logic.{_⊎_, _↔_}
 use mathlib.Core.Bool.{Bool, true, false, cond}
 use mathlib.Core.List.{List, [], _∷_, _++_, map}
-use Prim.Native.Nat.{ℕ, _≤_}
+use Prim.Native.Nat.{ℕ, _≤_, _<_}
 use lib.Dec.{leb, eqb}
 use lib.IntN.{ℤ}
 use lib.ListN.{length}
-use borrow.Author.Tests.{leb-true, leb-false, eqb-true}
+use borrow.Author.Tests.{leb-true, leb-false, le-leb, lt-leb, eqb-true}
 use Rattle.numbers.specs.Checks.{Answered}
 use Rattle.kept_spec.specs.Step.{StepResult}
 use Rattle.kept_spec.specs.Run.{Run, collect}
@@ -15,15 +16,23 @@ use Rattle.kept_spec.proofs.RunLaws.{run-through}
 use Rattle.kept_spec.proofs.OpenLaws.{open-answer-tells}
 use Rattle.kept_spec.proofs.StepLaws.{answer-tells}
 use Rattle.call_values.specs.Values.{openValues, stepValues}
+use Rattle.family_spec.specs.declared.Family.{Family}
+use Rattle.family_spec.specs.declared.NextMember.the-variants as next
+use Rattle.family_spec.specs.declared.Turned.{Turned}
+use Rattle.family_spec.specs.declared.Turned.the-variants.{Idle, Served}
 use Rattle.family_spec.specs.Family.{closed, totals, terms}
+use Rattle.family_spec.specs.Waiting.{waits}
 use Rattle.family_spec.specs.Member.{StepInputs}
-use Rattle.family_spec.specs.History.{placeIf, Lends, FamilyMoves, callsOf, view, told, held, openingsOf, stepsOf}
-use Rattle.family_spec.specs.Claims.{Begins, IsOpen, MemberAccount}
-use Rattle.family_spec.proofs.Histories.{accounts, unopened, capped, alone}
+use Rattle.family_spec.specs.Operations.{nextMember, TurnContract}
+use Rattle.family_spec.specs.History.{FamilyEvent, FamilyStanding, placeIf, Lends, FamilyMoves, callsOf, view, told, held, openingsOf, stepsOf, turnsIn, servedIn}
+use Rattle.family_spec.specs.Claims.{Begins, IsOpen, MemberAccount, Waits, waitsAfter, NotYetServed, ServedWithin8, searchFrom, FirstAmong}
+use Rattle.family_spec.proofs.Histories.{accounts, unopened, capped, waits-by-history, waits-or-served, served-within, next-in-turn, alone}
 use Rattle.family_calls.specs.List.{familyEntries, familyIn}
-use Rattle.family_calls.specs.Calls.{FamilyStartReturns, FamilyOpenReturns, FamilyStepReturns}
-use Rattle.family_calls.specs.CallRuns.{FamilyCall, ListStanding, standingIn, openTold, stepTold, eventOf, eventsOf, FamilyCallMoves}
+use Rattle.family_calls.specs.Calls.{FamilyStartReturns, FamilyOpenReturns, FamilyStepReturns, openTold, stepTold}
 use Rattle.family_calls.proofs.OwnLaws.{start-own, start-length, open-length, open-own, open-short, step-length, step-own, step-short}
+use Rattle.turn_calls.specs.TurnCalls.{FamilyRegisterReturns, turnValues, FamilyTurnReturns}
+use Rattle.turn_calls.specs.CallRuns.{FamilyCall, ListStanding, standingIn, turnTold, eventOf, eventsOf, TurnLends, FamilyCallMoves}
+use Rattle.turn_calls.proofs.TurnOwnLaws.{register-length, register-own, call-no-room, turn-own, turn-short, turn-length}
 
 -- ---- an opening
 
@@ -73,6 +82,38 @@ module _ (s : ListStanding) (h : familyEntries ≤ length (s .family)) {i : ℕ}
       subst (Run FamilyMoves (standingIn s) [])
       (λ y. record { family = familyIn (sym (z .1 .0) y); kept = λ j. sym (left-alone (z .1 .1 .0) q j) y }) Run.done
 
+-- ---- a registration, and a turn
+
+registers-by :
+    (s : ListStanding) {i r : ℕ} {family′ : List ℕ} → familyEntries ≤ length (s .family) → FamilyRegisterReturns (s .family) i r family′
+    → Run FamilyMoves (standingIn s) (eventOf (FamilyCall.registers (s .family) i r family′) ∷ []) (standingIn (record { family = family′; kept = s .kept }))
+registers-by s h p = Run.step (FamilyMoves.registers (register-own _ _ _ _ p h)) Run.done
+
+-- by what the turn told
+turned-by :
+    (s : FamilyStanding) (x : StepInputs) (g : Family) (a : Turned) {kept : List ℕ} {scratch : List ℤ} {all : ℕ → List ℕ} → TurnContract (s .family) x (record { family = g; answer = a }) kept scratch
+    → TurnLends (s .kept) (x .kept) a kept all → FamilyMoves s (FamilyEvent.turns (s .family) x (record { family = g; answer = a }) kept scratch) (record { family = g; kept = all })
+turned-by s x g Idle {kept} {scratch} p q =
+    subst (λ k. FamilyMoves s (FamilyEvent.turns (s .family) x (record { family = g; answer = Idle }) kept scratch) (record { family = g; kept = k })) (sym q) (FamilyMoves.idles p)
+turned-by s x g (Served i a) p q = FamilyMoves.serves p q
+
+module _ (s : ListStanding) (h : familyEntries ≤ length (s .family)) {x : StepInputs} {answer : List ℕ} {r : ℕ} {family′ kept : List ℕ} {scratch : List ℤ} {answer′ : List ℕ} (p : FamilyTurnReturns (s .family) x answer r family′ kept scratch answer′) where
+  abbrev turning : FamilyCall
+  turning = FamilyCall.turns (s .family) x answer r family′ kept scratch answer′
+
+  turns-by :
+      {all : ℕ → List ℕ} → turnValues ≤ length answer → TurnLends (s .kept) (x .kept) (turnTold (s .family) x answer′) kept all
+      → Run FamilyMoves (standingIn s) (eventsOf turning) (standingIn (record { family = family′; kept = all }))
+  turns-by {all} a q =
+      subst (λ b. Run FamilyMoves (standingIn s) (cond b (eventOf turning ∷ []) []) (standingIn (record { family = family′; kept = all }))) (sym (le-leb turnValues (length answer) a))
+      (Run.step (turned-by (standingIn s) x (familyIn family′) (turnTold (s .family) x answer′) (turn-own (s .family) x answer family′ kept scratch answer′ r p h a .1) q) Run.done)
+
+  turns-not : length answer < turnValues → Run FamilyMoves (standingIn s) (eventsOf turning) (standingIn (record { family = family′; kept = s .kept }))
+  turns-not a =
+      let z = turn-short (s .family) x answer family′ kept scratch answer′ r p (call-no-room (s .family) answer turnValues h a) .1 in
+      subst (λ b. Run FamilyMoves (standingIn s) (cond b (eventOf turning ∷ []) []) (standingIn (record { family = family′; kept = s .kept }))) (sym (lt-leb turnValues (length answer) a))
+      (subst (λ l. Run FamilyMoves (standingIn s) [] (standingIn (record { family = l; kept = s .kept }))) (sym (z .gives)) Run.done)
+
 -- ---- every history
 
 abbrev Long : ListStanding → Type 0
@@ -81,6 +122,13 @@ Long s = familyEntries ≤ length (s .family)
 moves-through : (s t : ListStanding) (e : FamilyCall) → Long s → FamilyCallMoves s e t → Run FamilyMoves (standingIn s) (eventsOf e) (standingIn t) × Long t
 moves-through s t e h (FamilyCallMoves.opens {answer = answer} p) = (opens-by s h p (leb openValues (length answer)) refl, open-length _ _ _ _ _ _ _ _ p h)
 moves-through s t e h (FamilyCallMoves.steps {answer = answer} p q) = (steps-by s h p q (leb stepValues (length answer)) refl, step-length _ _ _ _ _ _ _ _ _ p h)
+moves-through s t e h (FamilyCallMoves.registers p) = (registers-by s h p, register-length _ _ _ _ p h)
+moves-through s t e h (FamilyCallMoves.turns a p q) = (turns-by s h p a q, turn-length _ _ _ _ _ _ _ _ p h)
+moves-through s t e h (FamilyCallMoves.refuses a p) = (turns-not s h p a, turn-length _ _ _ _ _ _ _ _ p h)
+
+run-keeps-long : {s t : ListStanding} {es : List FamilyCall} → Long s → Run FamilyCallMoves s es t → Long t
+run-keeps-long h Run.done = h
+run-keeps-long h (Run.step m r) = run-keeps-long (moves-through _ _ _ h m .1) r
 
 pub call-run : (s t : ListStanding) (es : List FamilyCall) → Long s → Run FamilyCallMoves s es t → Run FamilyMoves (standingIn s) (collect eventsOf es) (standingIn t)
 call-run = run-through eventsOf standingIn Long moves-through
@@ -110,6 +158,25 @@ module _ {cap scale n : ℕ} {family family′ : List ℕ} (h : familyEntries �
     -- the totals do not pass the cap in sum
     pub call-capped : totals (familyIn (end .family)) ≤ cap
     call-capped = capped call-begins run
+
+    -- a member waits from an accepted registration on, until a turn serves it
+    pub call-waits : (i : ℕ) → i < 8 → waits (familyIn (end .family) .waiting) i ≡ waitsAfter i false (collect eventsOf es)
+    call-waits i l = waits-by-history call-begins run i l
+
+    -- the next is the first that waits after the last one served, going round, at the start from member 0
+    pub call-next : (i : ℕ) → (nextMember (familyIn (end .family)) ≡ next.Member i) ↔ FirstAmong (familyIn (end .family) .waiting) (searchFrom 0 (servedIn (collect eventsOf es))) 8 i
+    call-next i = next-in-turn call-begins run i
+
+    -- from a moment when member i waits, whatever follows: it is served within 8 turns, and those served before it are all different and not it
+    module _ {later : ListStanding} {ds : List FamilyCall} (i : ℕ) (l : i < 8) (w : Waits (standingIn end) i) (u : Run FamilyCallMoves end ds later) where
+      after-it : Run FamilyMoves (standingIn end) (collect eventsOf ds) (standingIn later)
+      after-it = call-run end later ds (run-keeps-long (start-length cap scale n family 0 family′ q h) r) u
+
+      pub call-served : NotYetServed i (collect eventsOf ds) (standingIn later) ⊎ ServedWithin8 i (collect eventsOf ds)
+      call-served = waits-or-served call-begins run i l w after-it
+
+      pub call-served-within : 8 ≤ length (turnsIn (collect eventsOf ds)) → ServedWithin8 i (collect eventsOf ds)
+      call-served-within t = served-within call-begins run i l w after-it t
 
 -- two histories of calls that agree in a member's calls and rooms tell it the same and leave it the same
 pub call-alone :

@@ -1,0 +1,99 @@
+-- What a turn's answer says of it, and that there is a turn for every input. Assumes nothing.
+use mathlib.Core.Path.{_≡_, refl, sym, _∙_, ap, subst}
+use mathlib.Core.List.{List}
+use Prim.Native.Nat.{ℕ}
+use native.Mathlib.Omega.{arith}
+use lib.IntN.{ℤ}
+use Rattle.kept_spec.specs.declared.Stepped.{Stepped}
+use Rattle.family_spec.specs.declared.Family.{Family}
+use Rattle.family_spec.specs.declared.NextMember.{NextMember}
+use Rattle.family_spec.specs.declared.NextMember.the-variants as next
+use Rattle.family_spec.specs.declared.Turned.{Turned}
+use Rattle.family_spec.specs.declared.Turned.the-variants.{Idle, Served}
+use Rattle.family_spec.specs.declared.FamilyStepped.{FamilyStepped}
+use Rattle.family_spec.specs.declared.FamilyTurned.{FamilyTurned}
+use Rattle.family_spec.specs.Member.{StepInputs}
+use Rattle.family_spec.specs.Operations.{StepMemberContract, nextMember, serve, TurnBy, TurnContract}
+use Rattle.family_spec.proofs.AnswerLaws.{every-step}
+
+-- ---- the two answers, and the two readings of the next
+
+pub idle-apart : {i : ℕ} {answer : Stepped} {a : Turned} → a ≡ Idle → a ≡ Served i answer → ⊥
+idle-apart p q = let z : _≡_ {A = ℕ} 0 1 = cc in omega arith
+
+pub nobody-apart : {i : ℕ} {n : NextMember} → n ≡ next.Nobody → n ≡ next.Member i → ⊥
+nobody-apart p q = let z : _≡_ {A = ℕ} 0 1 = cc in omega arith
+
+pub member-same : {i j : ℕ} {n : NextMember} → n ≡ next.Member i → n ≡ next.Member j → i ≡ j
+member-same p q = cc
+
+served-same : {i j : ℕ} {answer answer′ : Stepped} → Served i answer ≡ Served j answer′ → (i ≡ j) × (answer ≡ answer′)
+served-same e = (cc, cc)
+
+-- ---- a turn by its answer
+
+-- one that served i: i was next, its step was called, and its waiting has ended
+pub record Serves (f : Family) (x : StepInputs) (g : Family) (i : ℕ) (answer : Stepped) (kept : List ℕ) (scratch : List ℤ) : Type 0 where
+  pub due : nextMember f ≡ next.Member i
+  pub stepped : Family
+  pub contract : StepMemberContract f i x (record { family = stepped; answer = answer }) kept scratch
+  pub ends : g ≡ serve stepped i
+
+pub turn-serves :
+    {f : Family} {x : StepInputs} {g : Family} {i : ℕ} {answer : Stepped} {kept : List ℕ} {scratch : List ℤ}
+    → TurnContract f x (record { family = g; answer = Served i answer }) kept scratch → Serves f x g i answer kept scratch
+turn-serves {f} {x} {g} {i} {answer} {kept} {scratch} p = by-next (nextMember f) refl (p .serves-next)
+  where
+    by-next : (n : NextMember) → nextMember f ≡ n → TurnBy n f x (record { family = g; answer = Served i answer }) kept scratch → Serves f x g i answer kept scratch
+    by-next next.Nobody e t = absurd (idle-apart (t .answers) refl)
+    by-next (next.Member j) e t =
+        let s = served-same (t .answers) in
+        record {
+          due = e ∙ ap (λ k. next.Member k) (sym (s .0));
+          stepped = t .step .family;
+          contract = subst (λ X. X) (λ z. StepMemberContract f (sym (s .0) z) x (record { family = t .step .family; answer = sym (s .1) z }) kept scratch) (t .contract);
+          ends = t .gives ∙ ap (serve (t .step .family)) (sym (s .0));
+        }
+
+-- an idle one: nobody was next, and nothing changed
+pub record Idles (f : Family) (x : StepInputs) (g : Family) (kept : List ℕ) (scratch : List ℤ) : Type 0 where
+  pub due : nextMember f ≡ next.Nobody
+  pub gives : g ≡ f
+  pub keeps : kept ≡ x .kept
+  pub leaves : scratch ≡ x .scratch
+
+pub turn-idles :
+    {f : Family} {x : StepInputs} {g : Family} {kept : List ℕ} {scratch : List ℤ}
+    → TurnContract f x (record { family = g; answer = Idle }) kept scratch → Idles f x g kept scratch
+turn-idles {f} {x} {g} {kept} {scratch} p = by-next (nextMember f) refl (p .serves-next)
+  where
+    by-next : (n : NextMember) → nextMember f ≡ n → TurnBy n f x (record { family = g; answer = Idle }) kept scratch → Idles f x g kept scratch
+    by-next next.Nobody e t = record { due = e; gives = t .gives; keeps = t .keeps; leaves = t .leaves }
+    by-next (next.Member j) e t = absurd (idle-apart refl (t .answers))
+
+-- ---- the two ways to make one
+
+module _ (f : Family) (x : StepInputs) where
+  pub turn-nobody : nextMember f ≡ next.Nobody → TurnContract f x (record { family = f; answer = Idle }) (x .kept) (x .scratch)
+  turn-nobody e =
+      record {
+        serves-next = subst (λ n. TurnBy n f x (record { family = f; answer = Idle }) (x .kept) (x .scratch)) (sym e) (record { answers = refl; gives = refl; keeps = refl; leaves = refl });
+      }
+
+  pub turn-done :
+      {i : ℕ} {g : Family} {kept : List ℕ} {scratch : List ℤ} (s : FamilyStepped) → nextMember f ≡ next.Member i → StepMemberContract f i x s kept scratch → g ≡ serve (s .family) i
+      → TurnContract f x (record { family = g; answer = Served i (s .answer) }) kept scratch
+  turn-done {i} {g} {kept} {scratch} s e p q =
+      record {
+        serves-next = subst (λ n. TurnBy n f x (record { family = g; answer = Served i (s .answer) }) kept scratch) (sym e) (record { step = s; contract = p; answers = refl; gives = q });
+      }
+
+-- for every input there is a turn that keeps its contract
+pub every-turn : (f : Family) (x : StepInputs) → (r : FamilyTurned) × ((kept : List ℕ) × ((scratch : List ℤ) × TurnContract f x r kept scratch))
+every-turn f x = by-next (nextMember f) refl
+  where
+    by-next : (n : NextMember) → nextMember f ≡ n → (r : FamilyTurned) × ((kept : List ℕ) × ((scratch : List ℤ) × TurnContract f x r kept scratch))
+    by-next next.Nobody e = (record { family = f; answer = Idle }, (x .kept, (x .scratch, turn-nobody f x e)))
+    by-next (next.Member i) e =
+        let s = every-step f i x in
+        (record { family = serve (s .0 .family) i; answer = Served i (s .0 .answer) }, (s .1 .0, (s .1 .1 .0, turn-done f x (s .0) e (s .1 .1 .1) refl)))

@@ -1,0 +1,3 @@
+pub mod TurnCallLaws
+pub mod TurnOwnLaws
+pub mod RunLaws
