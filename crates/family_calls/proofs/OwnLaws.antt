@@ -165,7 +165,7 @@ module _ (family : List ℕ) (i : ℕ) (x : StepInputs) (answer : List ℕ) (r :
   step-length h = length-after family family′ (put g i (openWith (newTotal c))) (stepCallVerdict family i x answer) (q .gives) h
 
   -- with room, the call's verdict is the operation's: 19, 1 and 2 stand in it once more
-  step-long : familyEntries ≤ length family → stepValues ≤ length answer → stepCallVerdict family i x answer ≡ stepMemberVerdict g i x
+  pub step-long : familyEntries ≤ length family → stepValues ≤ length answer → stepCallVerdict family i x answer ≡ stepMemberVerdict g i x
   unfolding stepCallVerdict steppingVerdict checkShape
   step-long h a =
       ap₂ (λ u w. both u (both (checkOpened i (memberAt g i)) (both (checkSameCells (cells (x .lists)) (g .cells)) (both (checkCount (cells (x .lists))) (both (checkNodes (cells (x .lists)) (nodes (x .lists))) (both w (both (stepMemberVerdict g i x) Pass)))))))

@@ -2,7 +2,7 @@
 use mathlib.Core.Path.{_≡_, refl, sym, _∙_, subst}
 use mathlib.Core.Logic.{⊎-elim}
 use mathlib.Core.List.{List}
-use Prim.Native.Nat.{ℕ, suc, _+_, _%_, _≤_}
+use Prim.Native.Nat.{ℕ, _+_, _≤_}
 use native.Mathlib.Omega.{arith}
 use lib.IntN.{ℤ, pos, _+ℤ_}
 use lib.Signed.{_≤ℤ_}
@@ -17,7 +17,7 @@ use Rattle.kept_spec.specs.Run.{Run}
 use Rattle.family_spec.specs.declared.Family.{Family}
 use Rattle.family_spec.specs.declared.FamilyStepped.{FamilyStepped}
 use Rattle.family_spec.specs.Family.{openWith, memberAt, totalOf, put, schedule, totals, others, room, terms}
-use Rattle.family_spec.specs.Waiting.{withBit, withoutBit}
+use Rattle.family_spec.specs.Waiting.{withBit}
 use Rattle.family_spec.specs.Member.{StepInputs, callOf}
 use Rattle.family_spec.specs.Operations.{openMemberVerdict, stepMemberVerdict, StepMemberContract, registerVerdict}
 use Rattle.family_spec.specs.History.{FamilyEvent, FamilyStanding, FamilyMoves}
@@ -74,9 +74,9 @@ moves-capped {s} h c (FamilyMoves.opens {i = i} {kept} {k} p) =
 moves-capped h c (FamilyMoves.steps p q) = stepped-capped h c p
 moves-capped {s} h c (FamilyMoves.registers {i = i} p) =
     subst Capped (sym (p .gives)) (registers-capped (s .family) (withBit (s .family .waiting) i) (s .family .from) c (registerVerdict (s .family) i))
-moves-capped h c (FamilyMoves.serves {i = i} p q) =
+moves-capped h c (FamilyMoves.serves p q) =
     let t = turn-serves p in
-    subst Capped (sym (t .ends)) (schedule-capped (t .stepped) (withoutBit (t .stepped .waiting) i) (suc i % 8) (stepped-capped h c (t .contract)))
+    subst Capped (sym (t .ends)) (schedule-capped (t .stepped) _ _ (stepped-capped h c (t .contract)))
 moves-capped h c (FamilyMoves.idles p) = subst Capped (sym (turn-idles p .gives)) c
 
 -- ---- every history

@@ -5,6 +5,7 @@ use Prim.Native.Nat.{ℕ}
 use native.Mathlib.Omega.{arith}
 use lib.IntN.{ℤ}
 use Rattle.kept_spec.specs.declared.Stepped.{Stepped}
+use Rattle.kept_spec.proofs.StepLaws.{step-tells-injective}
 use Rattle.family_spec.specs.declared.Family.{Family}
 use Rattle.family_spec.specs.declared.NextMember.{NextMember}
 use Rattle.family_spec.specs.declared.NextMember.the-variants as next
@@ -70,6 +71,35 @@ turn-idles {f} {x} {g} {kept} {scratch} p = by-next (nextMember f) refl (p .serv
     by-next : (n : NextMember) → nextMember f ≡ n → TurnBy n f x (record { family = g; answer = Idle }) kept scratch → Idles f x g kept scratch
     by-next next.Nobody e t = record { due = e; gives = t .gives; keeps = t .keeps; leaves = t .leaves }
     by-next (next.Member j) e t = absurd (idle-apart refl (t .answers))
+
+-- ---- the contract leaves nothing open: a turn has one answer, one family and one pair of lists
+
+steps-alike :
+    (f : Family) (i : ℕ) (x : StepInputs) {s s′ : FamilyStepped} {kept kept′ : List ℕ} {scratch scratch′ : List ℤ} → StepMemberContract f i x s kept scratch
+    → StepMemberContract f i x s′ kept′ scratch′ → (s ≡ s′) × ((kept ≡ kept′) × (scratch ≡ scratch′))
+steps-alike f i x {s} {s′} p q =
+    let a : s .answer ≡ s′ .answer = step-tells-injective (s .answer) (s′ .answer) (p .tells .answers ∙ sym (q .tells .answers)) in
+    let g : s .family ≡ s′ .family = p .gives ∙ sym (q .gives) in
+    (λ z. record { family = g z; answer = a z }, (p .tells .leaves .writes ∙ sym (q .tells .leaves .writes), p .tells .leaves .clears ∙ sym (q .tells .leaves .clears)))
+
+pub turn-decided :
+    (f : Family) (x : StepInputs) {r r′ : FamilyTurned} {kept kept′ : List ℕ} {scratch scratch′ : List ℤ} → TurnContract f x r kept scratch → TurnContract f x r′ kept′ scratch′
+    → (r ≡ r′) × ((kept ≡ kept′) × (scratch ≡ scratch′))
+turn-decided f x {r} {r′} {kept} {kept′} {scratch} {scratch′} p q = by-next (nextMember f) (p .serves-next) (q .serves-next)
+  where
+    by-next : (n : NextMember) → TurnBy n f x r kept scratch → TurnBy n f x r′ kept′ scratch′ → (r ≡ r′) × ((kept ≡ kept′) × (scratch ≡ scratch′))
+    by-next next.Nobody a b = (
+      λ z. record { family = (a .gives ∙ sym (b .gives)) z; answer = (a .answers ∙ sym (b .answers)) z },
+      (a .keeps ∙ sym (b .keeps), a .leaves ∙ sym (b .leaves)),
+    )
+    by-next (next.Member i) a b =
+        let s = steps-alike f i x (a .contract) (b .contract) in (
+          λ z. record {
+            family = (a .gives ∙ ap (λ y. serve (y .family) i) (s .0) ∙ sym (b .gives)) z;
+            answer = (a .answers ∙ ap (λ y. Served i (y .answer)) (s .0) ∙ sym (b .answers)) z;
+          },
+          s .1,
+        )
 
 -- ---- the two ways to make one
 

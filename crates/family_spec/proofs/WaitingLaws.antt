@@ -106,18 +106,7 @@ next-below byte x (suc k) {m} e = by-test (tested (waits byte (x % 8))) (next-be
 
 pub next-number : (f : Family) {m : ℕ} → nextMember f ≡ next.Member m → m < 8
 unfolding nextMember
-next-number f e = next-below (f .waiting) (f .from) 8 e
-
--- nobody is next exactly if nobody waits
-pub nobody-next : (f : Family) → (nextMember f ≡ next.Nobody) ↔ NobodyWaits f
-nobody-next f = (to, from)
-  where
-    to : nextMember f ≡ next.Nobody → NobodyWaits f
-    to e i l = not-so (waits (f .waiting) i) (λ w. unfold nextMember in (
-        let r = finds (f .waiting) (f .from) 8 (ahead i (f .from % 8)) (omega arith) (ap (waits (f .waiting)) (reaches i (f .from) l) ∙ w) in nobody-apart e (r .found)))
-
-    from : NobodyWaits f → nextMember f ≡ next.Nobody
-    from h = unfold nextMember in (none-found (f .waiting) (f .from) 8 h)
+next-number f e = next-below _ _ 8 e
 
 -- ---- the first that waits
 
@@ -163,6 +152,17 @@ next-is f m = (first-is (f .waiting) (f .from) 8 m, from)
     from p =
         let r = finds (f .waiting) (f .from) 8 (p .places) (p .near) (ap (waits (f .waiting)) (sym (p .reached)) ∙ p .waiting) in
         r .found ∙ ap (λ k. next.Member k) (first-one (f .waiting) (f .from) 8 (r .member) m (first-is (f .waiting) (f .from) 8 (r .member) (r .found)) p)
+
+-- nobody is next exactly if nobody waits
+pub nobody-next : (f : Family) → (nextMember f ≡ next.Nobody) ↔ NobodyWaits f
+nobody-next f = (to, from)
+  where
+    to : nextMember f ≡ next.Nobody → NobodyWaits f
+    to e i l = not-so (waits (f .waiting) i) (λ w. unfold nextMember in (
+        let r = finds (f .waiting) (f .from) 8 (ahead i (f .from % 8)) (omega arith) (ap (waits (f .waiting)) (reaches i (f .from) l) ∙ w) in nobody-apart e (r .found)))
+
+    from : NobodyWaits f → nextMember f ≡ next.Nobody
+    from h = unfold nextMember in (none-found (f .waiting) (f .from) 8 h)
 
 -- ---- as the code goes
 

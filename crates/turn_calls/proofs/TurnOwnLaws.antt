@@ -16,12 +16,13 @@ use Rattle.numbers.specs.Checks.{Answered, answered, after, both, checkLong}
 use Rattle.numbers.proofs.PartLaws.{length-kept}
 use Rattle.qlt_spec.specs.Operation.{repair}
 use Rattle.kept_spec.specs.declared.Stepped.{Stepped}
-use Rattle.kept_spec.specs.Step.{StepCall, newTotal, stepResult, stepTells, stepAnswer}
+use Rattle.kept_spec.specs.Step.{StepCall, newTotal, StepResult, stepResult, stepTells, stepAnswer}
 use Rattle.kept_spec.proofs.StepLaws.{answer-tells, step-tells-injective}
-use Rattle.call_values.specs.Values.{returned, toldBy, resultIn}
+use Rattle.call_values.specs.Values.{returned, toldBy, stepValues}
 use Rattle.call_values.proofs.ValueLaws as values
 use Rattle.call_values.proofs.ValueLaws.{after-by, long-passes, long-fails, no-room, Numbered, told-returned, told-own, numbered}
 use Rattle.family_spec.specs.declared.Family.{Family}
+use Rattle.family_spec.specs.declared.NextMember.the-variants as next
 use Rattle.family_spec.specs.declared.Turned.{Turned}
 use Rattle.family_spec.specs.declared.Turned.the-variants.{Idle, Served}
 use Rattle.family_spec.specs.declared.FamilyStepped.{FamilyStepped}
@@ -29,16 +30,16 @@ use Rattle.family_spec.specs.declared.FamilyTurned.{FamilyTurned}
 use Rattle.family_spec.specs.Family.{openWith, memberAt, put, schedule, room, terms}
 use Rattle.family_spec.specs.Waiting.{withBit, withoutBit}
 use Rattle.family_spec.specs.Member.{StepInputs, callOf}
-use Rattle.family_spec.specs.Operations.{stepMemberVerdict, StepMemberContract, registerVerdict, registerTells, registerAnswer, RegisterContract, nextMember, serve, TurnContract}
+use Rattle.family_spec.specs.Operations.{stepMemberVerdict, StepMemberContract, registerVerdict, registerTells, registerAnswer, RegisterContract, nextMember, serve, ServingTurn, TurnBy, TurnContract}
 use Rattle.family_spec.proofs.RuleLaws.{stepping-accepts, registering-decides, registering-accepts, registering-numbers}
 use Rattle.family_spec.proofs.AnswerLaws.{register-answer-tells}
-use Rattle.family_spec.proofs.TurnLaws.{turn-serves, turn-idles}
+use Rattle.family_spec.proofs.TurnLaws.{turn-serves, turn-idles, turn-decided}
 use Rattle.family_spec.proofs.ByteLaws.{set-byte, clear-byte}
 use Rattle.family_spec.proofs.WaitingLaws.{next-number}
 use Rattle.family_calls.specs.List.{familyEntries, familyWords, familyIn}
-use Rattle.family_calls.specs.Calls.{callRoom, stepTold}
+use Rattle.family_calls.specs.Calls.{callRoom, FamilyStepReturns, stepTold}
 use Rattle.family_calls.proofs.ListLaws.{Typed, in-typed, put-typed, schedule-typed, family-read}
-use Rattle.family_calls.proofs.OwnLaws.{read-after, length-after, step-numbered}
+use Rattle.family_calls.proofs.OwnLaws.{read-after, length-after, step-numbered, step-long, step-own}
 use Rattle.turn_calls.specs.TurnCalls.{registerCallVerdict, registeredIn, FamilyRegisterReturns, FamilyReads, turnValues, stepWords, turnWords, turnList, TurnLeaves, TurnMade, TurnCallBy, FamilyTurnReturns}
 use Rattle.turn_calls.specs.CallRuns.{turnTold}
 
@@ -201,3 +202,46 @@ module _ (family : List ℕ) (x : StepInputs) (answer : List ℕ) (family′ kep
         by-verdict : (v : Checked) → TurnCallBy v family x answer family′ kept scratch answer′ → familyEntries ≤ length family′
         by-verdict Pass m = by-answer (m .turned .family) (m .turned .answer) (m .gives)
         by-verdict (Fail number place) m = let k = ap length (m .gives) in omega (arith, k, b)
+
+-- the contract leaves nothing open: a turn from C returns one value and leaves one set of lists
+pub turn-call-decided :
+    (family : List ℕ) (x : StepInputs) (answer : List ℕ) {r r′ : ℕ} {l l′ kept kept′ : List ℕ} {scratch scratch′ : List ℤ} {w w′ : List ℕ}
+    → FamilyTurnReturns family x answer r l kept scratch w → FamilyTurnReturns family x answer r′ l′ kept′ scratch′ w′
+    → (r ≡ r′) × ((l ≡ l′) × ((kept ≡ kept′) × ((scratch ≡ scratch′) × (w ≡ w′))))
+turn-call-decided family x answer {l = l} {l′} {kept} {kept′} {scratch} {scratch′} {w} {w′} p q =
+    (p .returns ∙ sym (q .returns), by-verdict (callRoom family answer turnValues) (p .does) (q .does))
+  where
+    by-verdict : (v : Checked) → TurnCallBy v family x answer l kept scratch w → TurnCallBy v family x answer l′ kept′ scratch′ w′ → (l ≡ l′) × ((kept ≡ kept′) × ((scratch ≡ scratch′) × (w ≡ w′)))
+    by-verdict Pass a b =
+        let d = turn-decided (familyIn family) x (a .contract) (b .contract) in (
+          a .gives ∙ ap (λ y. turnList (y .answer) family (y .family)) (d .0) ∙ sym (b .gives),
+          (d .1 .0, (d .1 .1, a .writes ∙ ap (λ y. written answer 0 (turnWords (y .answer))) (d .0) ∙ sym (b .writes))),
+        )
+    by-verdict (Fail number place) a b = (a .gives ∙ sym (b .gives), (a .keeps ∙ sym (b .keeps), (a .clears ∙ sym (b .clears), a .writes ∙ sym (b .writes))))
+
+-- where i is next: what the call for a step of i returns stands behind i, and the masses and the scratch are left as that call leaves them
+module _ (family : List ℕ) (i : ℕ) (x : StepInputs) (answer : List ℕ) {r : ℕ} {l kept : List ℕ} {scratch : List ℤ} {w : List ℕ} (p : FamilyTurnReturns family x answer r l kept scratch w) (b : familyEntries ≤ length family) (a : turnValues ≤ length answer) (due : nextMember (familyIn family) ≡ next.Member i) where
+  abbrev m : Family
+  m = familyIn family
+
+  word-by : (v : Checked) (y : StepResult) → at (written answer 0 (i ∷ stepWords (answered v y))) 1 ≡ returned v
+  unfolding written
+  word-by Pass y = refl
+  word-by (Fail number place) y = refl
+
+  pub turn-steps :
+      (four : List ℕ) {r′ : ℕ} {l′ kept′ : List ℕ} {scratch′ : List ℤ} {w′ : List ℕ} → stepValues ≤ length four → FamilyStepReturns family i x four r′ l′ kept′ scratch′ w′
+      → (at w 0 ≡ i) × ((at w 1 ≡ r′) × ((kept ≡ kept′) × (scratch ≡ scratch′)))
+  unfolding written
+  turn-steps four h q =
+      let made : TurnMade family x answer l kept scratch w = subst (λ v. TurnCallBy v family x answer l kept scratch w) (call-room family answer turnValues b a) (p .does) in
+      let t : ServingTurn m i x (made .turned) kept scratch = subst (λ n. TurnBy n m x (made .turned) kept scratch) due (made .contract .serves-next) in
+      let v = step-long family i x four _ _ _ _ _ q b h in
+      let words : w ≡ written answer 0 (i ∷ stepWords (stepTells (t .step .answer))) = made .writes ∙ ap (λ y. written answer 0 (turnWords y)) (t .answers) in
+      let own = step-own family i x four _ _ _ _ _ q b h in (
+        ap (λ y. at y 0) words,
+        (
+          ap (λ y. at y 1) (words ∙ ap (λ y. written answer 0 (i ∷ stepWords y)) (t .contract .tells .answers)) ∙ word-by (stepMemberVerdict m i x) _ ∙ sym (q .returns ∙ ap returned v),
+          (t .contract .tells .leaves .writes ∙ sym (own .tells .leaves .writes), t .contract .tells .leaves .clears ∙ sym (own .tells .leaves .clears)),
+        ),
+      )
