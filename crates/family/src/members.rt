@@ -33,17 +33,24 @@ pub fn member_at(family: Family, i: u32) -> Member
     family.members[i as usize]
 }
 
-// The family with a member open with a total.
+// The family with a member open with a total; whoever waits, waits on.
 pub fn with_total(family: Family, i: u32, total: u32) -> Family
     requires { ⌜ i < 8 ⌝ }
     ensures { λ r. ⌜ r ≡ put family i (openWith total) ⌝ }
 {
-    let mut given = family;
-    given.members[i as usize] = Member {
+    let mut members = family.members;
+    members[i as usize] = Member {
         opened: true,
         total,
     };
-    given
+    Family {
+        cap: family.cap,
+        scale: family.scale,
+        cells: family.cells,
+        members,
+        waiting: family.waiting,
+        from: family.from,
+    }
 }
 
 // The total of member j, or 0 if it is i.

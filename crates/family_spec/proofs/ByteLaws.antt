@@ -6,7 +6,7 @@ use Prim.Native.Nat.{ℕ, _+_, _≤_, _<_, _^_}
 use lib.Count.{ones, onesIn}
 use lib.Dec.{eqb, leb, ltb}
 use borrow.Author.Tests.{eqb-true, leb-true, ltb-true, eq-eqb}
-use Rattle.numbers.specs.Sums.{ℕ-adds, sumTo}
+use Rattle.numbers.specs.Sums.{sumTo}
 use Rattle.numbers.specs.Checks.{everyFrom}
 use Rattle.numbers.proofs.TestLaws.{clash}
 use Rattle.numbers.proofs.CheckLaws.{every-means}
@@ -72,13 +72,6 @@ module _ (w i : ℕ) (a : w < 256) (b : i < 8) where
   -- a bit that is set has its power in the byte
   pub set-power : waits w i ≡ true → 2 ^ i ≤ w
   set-power e = leb-true (2 ^ i) w (sym (ap (λ t. not t || leb (2 ^ i) w) e) ∙ every-bit (λ w i j. not (waits w i) || leb (2 ^ i) w) every-set-power w i i a b b)
-
-  -- a bit that is set is set again with no change, so setting it twice sets it once
-  pub set-twice : withBit (withBit w i) i ≡ withBit w i
-  set-twice = twice (withBit w i) (set-bit i b ∙ ap (λ t. t || waits w i) (eq-eqb i i refl))
-    where
-      twice : (x : ℕ) → waits x i ≡ true → withBit x i ≡ x
-      twice x e = unfold withBit in (ap (λ t. cond t x (x + 2 ^ i)) e)
 
 -- the machine's count of the set bits is the number of members that wait
 every-count : everyFrom (λ w. eqb (ones w) (membersWaiting w)) 0 256 ≡ true

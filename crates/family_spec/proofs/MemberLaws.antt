@@ -27,7 +27,7 @@ use Rattle.family_spec.specs.declared.Turned.the-variants.{Served}
 use Rattle.family_spec.specs.declared.FamilyOpened.{FamilyOpened}
 use Rattle.family_spec.specs.declared.FamilyStepped.{FamilyStepped}
 use Rattle.family_spec.specs.declared.FamilyRegistered.{FamilyRegistered}
-use Rattle.family_spec.specs.Family.{openWith, memberAt, schedule, room, Terms, terms}
+use Rattle.family_spec.specs.Family.{openWith, memberAt, room, Terms, terms}
 use Rattle.family_spec.specs.Waiting.{withBit}
 use Rattle.family_spec.specs.Member.{StepInputs, callOf}
 use Rattle.family_spec.specs.Operations.{openMemberVerdict, OpenMemberContract, stepMemberVerdict, StepMemberContract, registerVerdict, RegisterContract}

@@ -1,8 +1,8 @@
 -- From a moment when a member waits, the turns serve members that are all different until it is served, within 8 turns; where the search begins;
 -- and only open members wait. Assumes nothing.
 use mathlib.Core.Path.{_≡_, refl, sym, _∙_, ap, subst}
-use mathlib.Core.Logic.{_≢_, _⊎_, inl, inr, ⊎-elim, _↔_}
-use mathlib.Core.Bool.{true, false, not, _&&_, _||_, or-true}
+use mathlib.Core.Logic.{_≢_, _⊎_, inl, inr, ⊎-elim}
+use mathlib.Core.Bool.{true, not, _&&_, _||_, or-true}
 use mathlib.Core.List.{List, [], _∷_, _++_}
 use Prim.Native.Nat.{ℕ, suc, _+_, _%_, _<_, _≤_}
 use native.Mathlib.Omega.{arith}
@@ -36,7 +36,7 @@ use Rattle.family_spec.specs.Waiting.{waits, withBit, withoutBit, member
 use Rattle.family_spec.specs.Member.{checkOpened, StepInputs, callOf}
 use Rattle.family_spec.specs.Operations.{openMemberVerdict, OpenMemberContract, stepMemberVerdict, StepMemberContract, registerVerdict, registerTells, RegisterContract, nextMember, waitingCount, TurnContract}
 use Rattle.family_spec.specs.History.{FamilyEvent, FamilyStanding, FamilyMoves, turnsOf, turnsIn, servedOf, servedIn}
-use Rattle.family_spec.specs.Claims.{IsOpen, Waits, NobodyWaits, isDone, waitsAfterCall, waitsAfter, Distinct, NotYetServed, ServedWithin8, searchFrom, WaitingOpen, TurnIdle}
+use Rattle.family_spec.specs.Claims.{IsOpen, Waits, isDone, waitsAfterCall, waitsAfter, Distinct, NotYetServed, ServedWithin8, searchFrom, WaitingOpen, TurnIdle}
 use Rattle.family_spec.proofs.RuleLaws.{opened-decides}
 use Rattle.family_spec.proofs.AnswerLaws.{register-tells-injective}
 use Rattle.family_spec.proofs.FamilyLaws.{Eight}
@@ -164,7 +164,7 @@ module _ {f : Family} {x : StepInputs} {g : Family} {m : ℕ} {answer : Stepped}
   pub served-from : g .from ≡ suc m % 8
   served-from = ap (λ h. h .from) (turn-serves p .ends)
 
-  pub served-below : m < 8
+  served-below : m < 8
   served-below = next-number f (turn-serves p .due)
 
   served-scheduled : Scheduled f → Scheduled g

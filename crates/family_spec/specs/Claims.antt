@@ -52,7 +52,8 @@ Waits s i = waits (s .family .waiting) i ≡ true
 abbrev pub NobodyWaits : Family → Type 0
 NobodyWaits f = (i : ℕ) → i < 8 → waits (f .waiting) i ≡ false
 
--- member i waits after these calls if it waited, or not, before them: from an accepted registration on, until a turn serves it
+-- whether member i waits after a turn, after a call and after these calls, by whether it did before: from an accepted registration on, until a
+-- turn serves it
 abbrev pub isDone : Registered → Bool
 isDone registered.Done = true
 isDone (registered.Refused number place) = false

@@ -1,9 +1,9 @@
 -- Each call for turns has its operation's own contract, read off the return value and the lent lists; with a list that is too short it writes
 -- nothing. Assumes nothing.
 use mathlib.Core.Path.{_≡_, refl, sym, _∙_, ap, ap₂, subst}
-use mathlib.Core.Bool.{true, false, cond}
-use mathlib.Core.List.{List, [], _∷_}
-use Prim.Native.Nat.{ℕ, suc, _+_, _*_, _%_, _≤_, _<_, _^_}
+use mathlib.Core.Bool.{false, cond}
+use mathlib.Core.List.{List, _∷_}
+use Prim.Native.Nat.{ℕ, suc, _%_, _≤_, _<_}
 use native.Mathlib.Omega.{arith}
 use lib.Dec.{eqb}
 use lib.IntN.{ℤ}
@@ -12,7 +12,7 @@ use borrow.Author.Tests.{ne-eqb}
 use Rattle.numbers.specs.declared.Checked.{Checked}
 use Rattle.numbers.specs.declared.Checked.the-variants.{Pass, Fail}
 use Rattle.numbers.specs.Lists.{at, written}
-use Rattle.numbers.specs.Checks.{Answered, answered, after, both, checkLong}
+use Rattle.numbers.specs.Checks.{answered, after, both, checkLong}
 use Rattle.numbers.proofs.PartLaws.{length-kept}
 use Rattle.qlt_spec.specs.Operation.{repair}
 use Rattle.kept_spec.specs.declared.Stepped.{Stepped}
@@ -26,11 +26,10 @@ use Rattle.family_spec.specs.declared.NextMember.the-variants as next
 use Rattle.family_spec.specs.declared.Turned.{Turned}
 use Rattle.family_spec.specs.declared.Turned.the-variants.{Idle, Served}
 use Rattle.family_spec.specs.declared.FamilyStepped.{FamilyStepped}
-use Rattle.family_spec.specs.declared.FamilyTurned.{FamilyTurned}
-use Rattle.family_spec.specs.Family.{openWith, memberAt, put, schedule, room, terms}
+use Rattle.family_spec.specs.Family.{openWith, memberAt, put, room, terms}
 use Rattle.family_spec.specs.Waiting.{withBit, withoutBit}
 use Rattle.family_spec.specs.Member.{StepInputs, callOf}
-use Rattle.family_spec.specs.Operations.{stepMemberVerdict, StepMemberContract, registerVerdict, registerTells, registerAnswer, RegisterContract, nextMember, serve, ServingTurn, TurnBy, TurnContract}
+use Rattle.family_spec.specs.Operations.{stepMemberVerdict, StepMemberContract, registerVerdict, registerAnswer, RegisterContract, nextMember, serve, ServingTurn, TurnBy, TurnContract}
 use Rattle.family_spec.proofs.RuleLaws.{stepping-accepts, registering-decides, registering-accepts, registering-numbers}
 use Rattle.family_spec.proofs.AnswerLaws.{register-answer-tells}
 use Rattle.family_spec.proofs.TurnLaws.{turn-serves, turn-idles, turn-decided}

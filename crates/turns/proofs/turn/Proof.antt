@@ -1,12 +1,11 @@
 -- `turns::turn` meets its contract: the next one's step, or nothing.
-use mathlib.Core.Path.{_≡_, sym, _∙_, subst}
+use mathlib.Core.Path.{sym, _∙_, subst}
 use lib.IntN.{ℤ}
 use mir.Syntax.{w32}
-use mir.Val.{toZ, ofZ}
 use mir.ValLaws.{toZ-ofZ}
 use Rattle.qlt_spec.specs.Field.{lists}
 use Rattle.family_spec.specs.Member.{StepInputs, stepInputs}
-use Rattle.family_spec.specs.Operations.{StepMemberContract, nextMember}
+use Rattle.family_spec.specs.Operations.{StepMemberContract}
 use Rattle.family_spec.proofs.TurnLaws.{turn-nobody, turn-done}
 use Rattle.family_spec.proofs.WaitingLaws.{next-number}
 use borrow.Author.Needs.{needs}

@@ -1,6 +1,6 @@
 -- `turns::waiting::is_waiting` meets its contract: its test is the definition's.
 use mathlib.Core.Path.{ap}
-use Prim.Native.Nat.{_/_, _%_, _^_}
+use Prim.Native.Nat.{_/_, _%_}
 use lib.Dec.{eqb}
 use lib.Pow.{pow-pos}
 use Rattle.family_spec.specs.Waiting.{waits}
