@@ -9,7 +9,7 @@ use Rattle.numbers.specs.Sums.{sumTo}
 use Rattle.numbers.specs.Lists.{listTo, written}
 use Rattle.numbers.specs.Signed.{minℤ, maxℤ}
 use Rattle.numbers.specs.Quota.{quota}
-use Rattle.numbers.specs.Checks.{eachFrom, firstFrom, checkCount}
+use Rattle.numbers.specs.Checks.{eachFrom, firstFrom, checkCount, checkTotal}
 use Rattle.caas_spec.specs.Split.{clip, clipped, deficit, capacity, portion, firstShare, remainder, left, secondShare, shares, result}
 use Rattle.qlt_spec.specs.declared.Repair.{Repair}
 use Rattle.qlt_spec.specs.declared.Reconstructed.the-variants as repairs
@@ -19,7 +19,6 @@ use Rattle.qlt_spec.specs.Masses.{massBetween, groupOf, treeMass, treeMasses, s
 use Rattle.qlt_spec.specs.Checks.{checkNodes, checkLists, checkTree, boundsOrdered, checkOrder, checkSum, checkReach, checkShape, checkValues}
 use Rattle.qlt_spec.specs.Operation.{reconstructVerdict, repair, reconstructTells, cleared, ReconstructContract}
 use Rattle.kept_spec.specs.declared.Stepped.the-variants as steps
-use Rattle.kept_spec.specs.Open.{checkTotal}
 use Rattle.kept_spec.specs.Step.{checkSameScale, checkKept, stepVerdict, stepTells}
 use Rattle.kept_spec.specs.Account.{Event, Promised}
 use Rattle.bounds_spec.specs.declared.Bounded.the-variants.{Done, Refused}

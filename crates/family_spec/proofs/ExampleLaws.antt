@@ -5,7 +5,7 @@ use Rattle.numbers.specs.Sums.{sumTo}
 use Rattle.numbers.specs.Lists.{All, listTo, written}
 use Rattle.numbers.specs.Signed.{minℤ, maxℤ}
 use Rattle.numbers.specs.Quota.{quota}
-use Rattle.numbers.specs.Checks.{eachFrom, firstFrom, checkCount, checkScale}
+use Rattle.numbers.specs.Checks.{eachFrom, firstFrom, checkCount, checkScale, checkTotal}
 use Rattle.caas_spec.specs.Split.{clip, clipped, deficit, capacity, portion, firstShare, remainder, left, secondShare, shares, result}
 use Rattle.qlt_spec.specs.Tree.{leads, childOf, anyChild, nodeSum, parentOk, nodeOk, massFrom, massAt}
 use Rattle.qlt_spec.specs.Field.{outcome, outcomeNumber, lowIn, highIn, changeOf}
@@ -13,7 +13,7 @@ use Rattle.qlt_spec.specs.Masses.{massBetween, groupOf, treeMass, treeMasses, s
 use Rattle.qlt_spec.specs.Checks.{checkNodes, checkLists, checkTree, boundsOrdered, checkOrder, checkSum, checkReach, checkShape, checkValues}
 use Rattle.qlt_spec.specs.Operation.{repair, cleared}
 use Rattle.kept_spec.specs.declared.Stepped.the-variants as stepped
-use Rattle.kept_spec.specs.Open.{checkTotal, openTells}
+use Rattle.kept_spec.specs.Open.{openTells}
 use Rattle.kept_spec.specs.Step.{checkSameScale, checkKept, stepTells}
 use Rattle.kept_spec.specs.Run.{Run, collect}
 use Rattle.family_spec.specs.Family.{schedule, others, room}

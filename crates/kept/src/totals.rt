@@ -1,4 +1,4 @@
-// The new total of a step, and the checks 12, 13 and 17: for this crate and the crates above. Each function has its whole contract.
+// The new total of a step, and the checks 12 and 17: for this crate and the crates above. Each function has its whole contract.
 ghost use mathlib.Core.Path.{_≡_};
 ghost use Prim.Native.Nat.{_≤_};
 ghost use lib.IntN.{pos, _+ℤ_};
@@ -6,10 +6,8 @@ ghost use lib.Signed.{_≤ℤ_};
 ghost use lib.ListN.{length};
 ghost use Rattle.numbers.specs.Signed.{over};
 ghost use Rattle.numbers.specs.Checks.{maxTotal};
-ghost use Rattle.kept_spec.specs.Open.{checkTotal};
 ghost use Rattle.kept_spec.specs.Step.{checkSameScale, checkKept};
 use numbers::Checked;
-use numbers::arith::at_most;
 use numbers::checks::and;
 use numbers::checks::unless;
 use numbers::lists::sum_of;
@@ -42,11 +40,4 @@ pub fn check_kept(kept: &[u32], total: u32) -> Checked
     ensures { λ r. ⌜ r ≡ checkKept (now (kept .entry)) total ⌝ }
 {
     unless(sum_of(kept) == total as u64, 12, 0)
-}
-
-// 13: a total below 0 or above 2147483647.
-pub fn check_total(z: i64) -> Checked
-    ensures { λ r. ⌜ r ≡ checkTotal z ⌝ }
-{
-    unless(and(at_most(0, z), at_most(z, 2147483647)), 13, 0)
 }

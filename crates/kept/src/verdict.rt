@@ -7,7 +7,6 @@ ghost use Rattle.kept_spec.specs.Step.{stepCall, stepVerdictWith};
 use crate::totals::add_source;
 use crate::totals::check_kept;
 use crate::totals::check_same_scale;
-use crate::totals::check_total;
 use crate::totals::whole;
 use field_checks::shape::check_shape;
 use field_checks::total::check_reach;
@@ -17,6 +16,7 @@ use numbers::Checked;
 use numbers::arith::signed;
 use numbers::checks::check_count;
 use numbers::checks::check_scale;
+use numbers::checks::check_total;
 use numbers::checks::then;
 use numbers::lists::sum_of;
 

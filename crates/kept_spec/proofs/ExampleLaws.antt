@@ -5,7 +5,7 @@ use Rattle.numbers.specs.Sums.{sumTo}
 use Rattle.numbers.specs.Lists.{All, listTo, written}
 use Rattle.numbers.specs.Signed.{minℤ, maxℤ}
 use Rattle.numbers.specs.Quota.{quota}
-use Rattle.numbers.specs.Checks.{eachFrom, firstFrom, checkCount, checkScale}
+use Rattle.numbers.specs.Checks.{eachFrom, firstFrom, checkCount, checkScale, checkTotal}
 use Rattle.caas_spec.specs.Split.{clip, clipped, deficit, capacity, portion, firstShare, remainder, left, secondShare, shares, result}
 use Rattle.qlt_spec.specs.Tree.{leads, childOf, anyChild, nodeSum, parentOk, nodeOk, massFrom, massAt}
 use Rattle.qlt_spec.specs.Field.{outcome, outcomeNumber, lowIn, highIn, changeOf}
@@ -13,7 +13,7 @@ use Rattle.qlt_spec.specs.Masses.{massBetween, groupOf, treeMass, treeMasses, s
 use Rattle.qlt_spec.specs.Checks.{checkNodes, checkLists, checkTree, boundsOrdered, checkOrder, checkSum, checkReach, checkShape, checkValues}
 use Rattle.qlt_spec.specs.Operation.{repair, cleared}
 use Rattle.kept_spec.specs.declared.Opened.the-variants.{Accepted}
-use Rattle.kept_spec.specs.Open.{checkTotal, openVerdict, openTells, OpenContract}
+use Rattle.kept_spec.specs.Open.{openVerdict, openTells, OpenContract}
 use Rattle.kept_spec.specs.Step.{checkSameScale, checkKept, stepVerdict, stepTells}
 use Rattle.kept_spec.specs.Run.{Run}
 use Rattle.kept_spec.specs.Account.{Promised, Moves, Account}

@@ -9,7 +9,7 @@ use lib.IntN.{ℤ}
 use lib.ListN.{length}
 use Rattle.numbers.specs.declared.Checked.{Checked}
 use Rattle.numbers.specs.declared.Checked.the-variants.{Fail}
-use Rattle.numbers.specs.Checks.{first, after}
+use Rattle.numbers.specs.Checks.{first, after, checkTotal}
 use Rattle.qlt_spec.specs.Field.{Lists, nodes, scratchPerNode}
 use Rattle.qlt_spec.specs.Checks.{checkValues, checkReach}
 use Rattle.qlt_spec.specs.Operation.{ShapeFits, cleared}
@@ -18,7 +18,6 @@ use Rattle.qlt_spec.proofs.CheckLaws.{shape-by}
 use Rattle.qlt_spec.proofs.FormerLaws.{both-enough, tells-agree, tells-alike, former-shape}
 use Rattle.kept_spec.specs.declared.Balance.{Balance}
 use Rattle.kept_spec.specs.declared.Stepped.{Stepped}
-use Rattle.kept_spec.specs.Open.{checkTotal}
 use Rattle.kept_spec.specs.Step.{StepCall, stepCall, next, newTotal, checkSameScale, checkKept, stepVerdict, StepContract}
 use Rattle.kept_spec.specs.Account.{Event, Promised}
 use Rattle.kept_spec.specs.Former.{formerStepVerdict, FormerStepContract}

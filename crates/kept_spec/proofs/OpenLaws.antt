@@ -4,26 +4,20 @@ use mathlib.Core.Logic.{_↔_}
 use mathlib.Core.List.{List, [], _∷_, _++_}
 use Prim.Native.Nat.{ℕ}
 use native.Mathlib.Omega.{arith}
-use lib.IntN.{ℤ, pos}
+use lib.IntN.{pos}
 use lib.ListN.{length}
 use Rattle.numbers.specs.declared.Checked.{Checked}
 use Rattle.numbers.specs.declared.Checked.the-variants.{Pass, Fail}
-use Rattle.numbers.specs.Checks.{Answered, accepted, refused, first, Rule, Decides, DecidesAll, Holds, Broken, RefuseWith, Extends, maxTotal}
-use Rattle.numbers.proofs.TestLaws.{and-means, injective}
-use Rattle.numbers.proofs.SignedLaws.{le-parts, parts-le, leZ-means}
-use Rattle.numbers.proofs.CheckLaws.{first-append, answered-accepted, decides-unless, decides-then, decides-none, decides-append, count-decides, scale-decides}
+use Rattle.numbers.specs.Checks.{Answered, accepted, refused, first, checkTotal, Rule, totalRule, DecidesAll, Holds, Broken, RefuseWith, Extends}
+use Rattle.numbers.proofs.TestLaws.{injective}
+use Rattle.numbers.proofs.SignedLaws.{le-parts, parts-le}
+use Rattle.numbers.proofs.CheckLaws.{first-append, answered-accepted, decides-then, decides-none, decides-append, count-decides, scale-decides, total-decides}
 use Rattle.numbers.proofs.ChainLaws.{extends-own, extends-pass, refuse-with}
 use Rattle.numbers.specs.Lists.{sum, All}
 use Rattle.kept_spec.specs.declared.Balance.{Balance}
 use Rattle.kept_spec.specs.declared.Opened.{Opened}
 use Rattle.kept_spec.specs.declared.Opened.the-variants.{Accepted, Refused}
-use Rattle.kept_spec.specs.Open.{checkTotal, totalRule, openChecksWith, openChecks, openVerdict, openVerdictWith, openRulesWith, openRules, OpenFits, openBalance, openTells, openAnswer, OpenContract}
-
--- ---- 13, which Step shares
-
-pub total-decides : (z : ℤ) → Decides (checkTotal z) (totalRule z)
-unfolding checkTotal
-total-decides z = decides-unless _ 13 (and-means (leZ-means (pos 0) z) (leZ-means z (pos maxTotal)))
+use Rattle.kept_spec.specs.Open.{openChecksWith, openChecks, openVerdict, openVerdictWith, openRulesWith, openRules, OpenFits, openBalance, openTells, openAnswer, OpenContract}
 
 -- ---- the verdict
 

@@ -13,10 +13,10 @@ use Rattle.numbers.specs.declared.Checked.{Checked}
 use Rattle.numbers.specs.declared.Checked.the-variants.{Pass, Fail}
 use Rattle.numbers.specs.Sums.{ℕ-adds, sumTo}
 use Rattle.numbers.specs.Lists.{at, sum, All}
-use Rattle.numbers.specs.Checks.{Answered, accepted, refused, first, both, Rule, Decides, DecidesAll, Holds, Broken, numbersOf, RefuseWith, Extends, maxTotal}
+use Rattle.numbers.specs.Checks.{Answered, accepted, refused, first, both, checkTotal, Rule, totalRule, Decides, DecidesAll, Holds, Broken, numbersOf, RefuseWith, Extends, maxTotal}
 use Rattle.numbers.proofs.TestLaws.{eq-means, le-means, and-means, injective}
 use Rattle.numbers.proofs.SignedLaws.{le-parts, parts-le, from-zero-whole}
-use Rattle.numbers.proofs.CheckLaws.{first-append, decides-unless, decides-then, decides-none, decides-append, holds-append, broken-append}
+use Rattle.numbers.proofs.CheckLaws.{first-append, decides-unless, decides-then, decides-none, decides-append, holds-append, broken-append, total-decides}
 use Rattle.numbers.proofs.ChainLaws.{extends-own, extends-pass, extends-fail, isOne, not-broken, refuse-with}
 use Rattle.qlt_spec.specs.Field.{Lists, scratchPerNode, field, sumCells}
 use Rattle.qlt_spec.specs.Masses.{treeMasses}
@@ -28,10 +28,8 @@ use Rattle.qlt_spec.proofs.OperationLaws as operation
 use Rattle.qlt_spec.proofs.OperationLaws.{told-passed, told-result, told-masses, told-kept}
 use Rattle.kept_spec.specs.declared.Stepped.{Stepped}
 use Rattle.kept_spec.specs.declared.Stepped.the-variants.{Accepted, Refused}
-use Rattle.kept_spec.specs.Open.{checkTotal, totalRule}
 use Rattle.kept_spec.specs.Step.{StepCall, next, newTotal, repairCall, checkSameScale, checkKept, stepChecksWith, stepChecks, stepVerdict, stepVerdictWith, scaleRule, keptRule, stepRulesWith, stepRules, StepFits, StepResult, stepResult, stepTells, stepAnswer}
 use Rattle.kept_spec.specs.Account.{Event, told, Promised, AcceptedFacts, gain, gainBy}
-use Rattle.kept_spec.proofs.OpenLaws.{total-decides}
 
 -- ---- each check, and the verdict
 

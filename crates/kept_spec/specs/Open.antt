@@ -1,24 +1,15 @@
 -- The operation Open: its verdict and its answer. Assumes nothing.
 use mathlib.Core.Path.{_≡_}
-use mathlib.Core.Bool.{_&&_}
 use mathlib.Core.List.{List, [], _∷_, _++_}
 use Prim.Native.Nat.{ℕ, _≤_, _<_}
-use lib.IntN.{ℤ, pos}
-use lib.Signed.{leZ, _≤ℤ_}
+use lib.IntN.{pos}
 use lib.ListN.{length}
 use Rattle.numbers.specs.declared.Checked.{Checked}
-use Rattle.numbers.specs.Checks.{Answered, accepted, refused, answered, unless, first, checkCount, checkScale, Rule, rule, maxTotal}
+use Rattle.numbers.specs.Checks.{Answered, accepted, refused, answered, first, checkCount, checkScale, checkTotal, Rule, rule, totalRule, maxTotal}
 use Rattle.numbers.specs.Lists.{sum}
 use Rattle.kept_spec.specs.declared.Balance.{Balance}
 use Rattle.kept_spec.specs.declared.Opened.{Opened}
 use Rattle.kept_spec.specs.declared.Opened.the-variants.{Accepted, Refused}
-
--- 13: a total below 0 or above 2147483647
-unfoldable pub checkTotal : ℤ → Checked
-checkTotal z = unless (leZ (pos 0) z && leZ z (pos maxTotal)) 13 0
-
-abbrev pub totalRule : ℤ → Rule
-totalRule z = rule 13 ((pos 0 ≤ℤ z) × (z ≤ℤ pos maxTotal))
 
 -- 1; 9 (02), of the scale k; the checks `own` of an operation that opens, none of Open itself; 13
 abbrev pub openChecksWith : List Checked → List ℕ → ℕ → List Checked

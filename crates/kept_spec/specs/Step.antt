@@ -8,7 +8,7 @@ use lib.IntN.{ℤ, pos, _+ℤ_}
 use lib.ListN.{length}
 use Rattle.numbers.specs.declared.Checked.{Checked}
 use Rattle.numbers.specs.Signed.{over}
-use Rattle.numbers.specs.Checks.{Answered, accepted, refused, unless, first, Rule, rule, maxTotal}
+use Rattle.numbers.specs.Checks.{Answered, accepted, refused, unless, first, checkTotal, Rule, rule, totalRule, maxTotal}
 use Rattle.qlt_spec.specs.declared.Repair.{Repair}
 use Rattle.qlt_spec.specs.Field.{Lists, scratchPerNode}
 use Rattle.numbers.specs.Lists.{sum}
@@ -17,7 +17,6 @@ use Rattle.qlt_spec.specs.Operation.{ReconstructCall, reconstructCall, shapeRul
 use Rattle.kept_spec.specs.declared.Balance.{Balance}
 use Rattle.kept_spec.specs.declared.Stepped.{Stepped}
 use Rattle.kept_spec.specs.declared.Stepped.the-variants.{Accepted, Refused}
-use Rattle.kept_spec.specs.Open.{checkTotal, totalRule}
 
 -- all that a call is given
 pub record StepCall : Type 0 where

@@ -8,9 +8,11 @@ use native.Mathlib.Omega.{arith}
 use native.Mathlib.Numerals.{add-one}
 use native.Mathlib.Decide.{ℕ-discrete}
 use lib.Dec.{eqb}
+use lib.IntN.{ℤ, pos}
 use Rattle.numbers.specs.declared.Checked.{Checked}
 use Rattle.numbers.specs.declared.Checked.the-variants.{Pass, Fail}
-use Rattle.numbers.specs.Checks.{accepted, refused, answered, after, unless, both, first, eachFrom, firstFrom, everyFrom, Rule, Decides, rule, ruleFor, ruleAt, Holds, Broken, DecidesAll, rulesFrom, checkCount, checkScale, checkLength, checkLong}
+use Rattle.numbers.specs.Checks.{accepted, refused, answered, after, unless, both, first, eachFrom, firstFrom, everyFrom, Rule, Decides, rule, ruleFor, ruleAt, Holds, Broken, DecidesAll, rulesFrom, checkCount, checkScale, checkLength, checkLong, checkTotal, totalRule, maxTotal}
+use Rattle.numbers.proofs.SignedLaws.{leZ-means}
 use Rattle.numbers.proofs.TestLaws.{Tested, holds, fails, tested, clash, and-means, lt-means, le-means, and-first, and-second, and-intro}
 
 -- ---- along a chain: the first passes and the rest decides; the first fails and that is it; the last decides
@@ -373,3 +375,7 @@ scale-decides k = decides-unless _ 9 (le-means k 30)
 pub long-decides : (k n : ℕ) → Decides (checkLong k n) (rule 3 (n ≤ k))
 unfolding checkLong
 long-decides k n = decides-unless _ 3 (le-means n k)
+
+pub total-decides : (z : ℤ) → Decides (checkTotal z) (totalRule z)
+unfolding checkTotal
+total-decides z = decides-unless _ 13 (and-means (leZ-means (pos 0) z) (leZ-means z (pos maxTotal)))

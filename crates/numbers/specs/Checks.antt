@@ -5,6 +5,8 @@ use mathlib.Core.Bool.{Bool, true, false, _&&_}
 use mathlib.Core.List.{List, [], _∷_, _++_}
 use Prim.Native.Nat.{ℕ, zero, suc, _<_}
 use lib.Dec.{ltb, leb, eqb}
+use lib.IntN.{ℤ, pos}
+use lib.Signed.{leZ, _≤ℤ_}
 use Rattle.numbers.specs.declared.Checked.{Checked}
 use Rattle.numbers.specs.declared.Checked.the-variants.{Pass, Fail}
 
@@ -148,3 +150,10 @@ checkLong k n = unless (leb n k) 3 0
 -- the largest sum that 01 allows of highs, safe highs, weights and kept masses
 abbrev pub maxTotal : ℕ
 maxTotal = 2147483647
+
+-- 13: a total below 0 or above 2147483647
+unfoldable pub checkTotal : ℤ → Checked
+checkTotal z = unless (leZ (pos 0) z && leZ z (pos maxTotal)) 13 0
+
+abbrev pub totalRule : ℤ → Rule
+totalRule z = rule 13 ((pos 0 ≤ℤ z) × (z ≤ℤ pos maxTotal))

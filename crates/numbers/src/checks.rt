@@ -3,7 +3,8 @@ ghost use mathlib.Core.Path.{_≡_};
 ghost use mathlib.Core.Bool.{_&&_};
 ghost use Prim.Native.Nat.{_<_, _^_};
 ghost use Rattle.numbers.specs.declared.Checked.the-variants.{Fail};
-ghost use Rattle.numbers.specs.Checks.{unless, both, checkCount, checkScale, checkLength, checkLong};
+ghost use Rattle.numbers.specs.Checks.{unless, both, checkCount, checkScale, checkLength, checkLong, checkTotal};
+use crate::arith::at_most;
 
 // Two tests as one. (An argument `a && b` would part the ways before the call; this does not.)
 pub fn and(a: bool, b: bool) -> bool
@@ -70,4 +71,11 @@ pub fn check_long(k: usize, n: usize) -> crate::Checked
     ensures { λ r. ⌜ r ≡ checkLong k n ⌝ }
 {
     unless(n <= k, 3, 0)
+}
+
+// 13: a total below 0 or above 2147483647.
+pub fn check_total(z: i64) -> crate::Checked
+    ensures { λ r. ⌜ r ≡ checkTotal z ⌝ }
+{
+    unless(and(at_most(0, z), at_most(z, 2147483647)), 13, 0)
 }

@@ -6,12 +6,12 @@ use lib.ListN.{length}
 use mir.Syntax.{w64}
 use mir.Val.{toZ, ofZ}
 use mir.ValLaws.{toZ-pos}
-use Rattle.numbers.specs.Checks.{both, checkCount, checkScale}
+use Rattle.numbers.specs.Checks.{both, checkCount, checkScale, checkTotal}
 use Rattle.numbers.specs.declared.Checked.{Checked}
 use Rattle.numbers.specs.declared.Checked.the-variants.{Pass}
 use Rattle.numbers.specs.Lists.{sum}
 use Rattle.numbers.proofs.CheckLaws.{on, stop, last, both-assoc, both-first, count-decides}
-use Rattle.kept_spec.specs.Open.{checkTotal, openVerdictWith}
+use Rattle.kept_spec.specs.Open.{openVerdictWith}
 use borrow.Author.Needs.{needs}
 use Rattle.kept.proofs.verdict.open_verdict.Statement.{statement}
 use Rattle.kept.proofs.verdict.open_verdict.Tie as tie

@@ -9,16 +9,14 @@ use mir.Val.{toZ, ofZ}
 use Rattle.numbers.specs.declared.Checked.{Checked}
 use Rattle.numbers.specs.declared.Checked.the-variants.{Pass}
 use Rattle.numbers.specs.Signed.{over}
-use Rattle.numbers.specs.Checks.{both}
-use Rattle.numbers.proofs.CheckLaws.{on, stop, last}
+use Rattle.numbers.specs.Checks.{both, checkTotal}
+use Rattle.numbers.proofs.CheckLaws.{on, stop, last, total-decides}
 use Rattle.qlt_spec.specs.Field.{lists}
 use Rattle.qlt_spec.specs.Checks.{shapeOf, checkValues, checkReach}
 use Rattle.qlt_spec.specs.Operation.{ShapeFits}
 use Rattle.qlt_spec.proofs.CheckLaws.{shape-fits}
 use Rattle.field_checks.proofs.CodeLaws.{sized}
-use Rattle.kept_spec.specs.Open.{checkTotal}
 use Rattle.kept_spec.specs.Step.{StepCall, stepCall, next, checkKept, stepVerdictWith}
-use Rattle.kept_spec.proofs.OpenLaws.{total-decides}
 use Rattle.kept_spec.proofs.StepLaws.{same, totalsWith}
 use Rattle.kept.proofs.VerdictLaws.{on-both, stop-both}
 use Rattle.kept.proofs.TotalLaws.{next-read}
