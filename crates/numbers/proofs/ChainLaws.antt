@@ -147,7 +147,7 @@ refuse-append rs ss ms ns ks d e a b n = (
 )
 
 -- and of the rules of places in turn after others, if these have no number more
-each-number : (rules : ℕ → List Rule) (ns : List ℕ) (n : ℕ) → ((i : ℕ) → areOf ns (numbersOf (rules i)) ≡ true) → (i k : ℕ) → OneOf (numbersOf (rulesFrom rules i k)) n → OneOf ns n
+pub each-number : (rules : ℕ → List Rule) (ns : List ℕ) (n : ℕ) → ((i : ℕ) → areOf ns (numbersOf (rules i)) ≡ true) → (i k : ℕ) → OneOf (numbersOf (rulesFrom rules i k)) n → OneOf ns n
 unfolding rulesFrom OneOf
 each-number rules ns n h i zero o = absurd o
 each-number rules ns n h i (suc k) o =

@@ -1,0 +1,11 @@
+pub mod WordLaws
+pub mod ReadLaws
+pub mod BackLaws
+pub mod MeansLaws
+pub mod AddLaws
+pub mod ReportLaws
+pub mod HeldLaws
+pub mod StartLaws
+pub mod LentLaws
+pub mod CodeLaws
+pub mod EntryLaws

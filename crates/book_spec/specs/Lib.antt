@@ -1,0 +1,4 @@
+pub mod Book
+pub mod ReadBook
+pub mod StartBook
+pub mod LentBook
