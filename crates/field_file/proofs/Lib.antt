@@ -1,2 +1,2 @@
--- Laws for the reader and the writer in code.
+-- Laws for both operations.
 pub mod Laws

@@ -1,15 +1,13 @@
-// The operations Read a field file and Write a field file. Public: `read_field`, `write_field`; the checks, the reading of the lists and
-// the writing of the blocks are in modules of their own, for this crate alone. Relies on `files_spec`, `blocks`, `field_checks`,
-// `qlt_spec` and `numbers`.
+// The operations Read a field file and Write a field file. Public: `read_field`, `write_field`; the checks of both are in the module `verdict`,
+// for this crate alone, the reading of the lists is in the crate `field_reader` and the writing of the blocks in `field_writer`. Relies on
+// these two, `files_spec`, `blocks`, `field_checks`, `qlt_spec` and `numbers`.
 ghost use Rattle.qlt_spec.specs.Field.{lists};
 ghost use Rattle.files_spec.specs.ReadField.{ReadContract};
 ghost use Rattle.files_spec.specs.WriteField.{fieldWriteCall, FieldWriteContract};
 use files_spec::FieldRead;
 use files_spec::FieldWritten;
 
-mod cells;
 mod verdict;
-mod work;
 
 // Reads a field file into seven lists, which may be longer than the field. A refused call writes nothing.
 pub fn read_field(
@@ -41,7 +39,7 @@ pub fn read_field(
         parents,
     );
     let verdict = verdict::with_later(head, file);
-    work::read_by(
+    field_reader::work::read_by(
         verdict,
         file,
         targets,
@@ -52,7 +50,7 @@ pub fn read_field(
         weights,
         parents,
     );
-    work::answer_by(verdict, file)
+    field_reader::work::answer_by(verdict, file)
 }
 
 // Writes the field file of the first `cells` entries of six lists, the first `nodes` parents and the total to the front of the buffer, and
@@ -88,7 +86,7 @@ pub fn write_field(
         parents,
         buffer,
     );
-    work::write_by(
+    field_writer::work::write_by(
         checked,
         cells,
         nodes,

@@ -1,12 +1,11 @@
 // The checks of Read a field file and of Write a field file, one function each, and their chains in 01's order.
 ghost use mathlib.Core.Path.{_≡_};
 ghost use mathlib.Core.List.{[], _∷_};
-ghost use Prim.Native.Nat.{ℕ, _*_, _≤_, _<_, _^_};
+ghost use Prim.Native.Nat.{ℕ, _≤_};
 ghost use lib.ListN.{length};
 ghost use Rattle.numbers.specs.declared.Checked.the-variants.{Pass};
 ghost use Rattle.numbers.specs.Checks.{first};
 ghost use Rattle.qlt_spec.specs.Field.{lists};
-ghost use Rattle.files_spec.specs.FieldFile.{fieldBlocks};
 ghost use Rattle.files_spec.specs.ReadField.{checkRoom, blockChecks, sizeChecks, headVerdict, laterVerdict, Measured};
 ghost use Rattle.files_spec.specs.WriteField.{fieldWriteCall, fieldWriteVerdict};
 use blocks::block::check_sound;
@@ -19,6 +18,8 @@ use blocks::tables::LIST;
 use blocks::tables::check_table;
 use blocks::tables::table_blocks;
 use field_checks::shape::check_nodes;
+use field_writer::sizes::field_blocks;
+use field_writer::sizes::file_length;
 use files_spec::CELLS;
 use files_spec::MAX_FIELD_FILE;
 use numbers::Checked;
@@ -35,14 +36,6 @@ fn head_block(file: &[u8]) -> Checked
         check_sound(file, 1),
         then(check_mark(file), check_spare(file, 4, 1)),
     )
-}
-
-// How many blocks a file of n cells and m nodes has.
-fn field_blocks(n: usize, m: usize) -> usize
-    requires { ⌜ (n < 2 ^ 32) × (m < 2 ^ 32) ⌝ }
-    ensures { λ r. ⌜ r ≡ fieldBlocks n m ⌝ }
-{
-    1 + table_blocks(CELLS, n) + table_blocks(LIST, m)
 }
 
 // 3: each list has room for n or m.
@@ -162,14 +155,6 @@ pub fn with_later(head: Checked, file: &[u8]) -> Checked
         return Checked::Fail { number, place };
     }
     later_verdict(file)
-}
-
-// How many bytes the file of n cells and m nodes has.
-pub fn file_length(n: usize, m: usize) -> usize
-    requires { ⌜ (n ≤ 512) × (m ≤ 1024) ⌝ }
-    ensures { λ r. ⌜ r ≡ 512 * fieldBlocks n m ⌝ }
-{
-    512 * field_blocks(n, m)
 }
 
 // The chain of Write a field file, whatever the total: n and m, then the lists and the buffer.

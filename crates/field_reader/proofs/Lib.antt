@@ -1,0 +1,2 @@
+-- Laws for the reader in code.
+pub mod Laws

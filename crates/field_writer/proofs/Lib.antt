@@ -1,0 +1,2 @@
+-- Laws for the writer in code.
+pub mod Laws
