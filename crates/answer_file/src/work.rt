@@ -9,11 +9,11 @@ ghost use Rattle.files_spec.specs.AnswerFile.{answerBlocks, answerHead, answerB
 ghost use Rattle.files_spec.specs.WriteAnswer.{writeCall, writeVerdict, WriteContract};
 ghost use Rattle.files_spec.specs.ReadAnswer.{answerCells, answerRepair, answerMasses, AnswerMeasured, answerOf, answerReadTells};
 use crate::verdict::file_length;
+use block_tables::tables::LIST;
+use block_tables::tables::put_list;
+use block_tables::tables::read_column;
 use blocks::block::fill_block;
 use blocks::block::payload_word;
-use blocks::tables::LIST;
-use blocks::tables::put_list;
-use blocks::tables::read_column;
 use blocks::words::high_word;
 use blocks::words::low_word;
 use blocks::words::two_words;

@@ -2,4 +2,3 @@
 pub mod WordLaws
 pub mod BlockLaws
 pub mod FileLaws
-pub mod TableLaws

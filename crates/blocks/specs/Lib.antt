@@ -1,4 +1,3 @@
 pub mod Words
 pub mod Blocks
 pub mod Files
-pub mod Tables

@@ -1,11 +1,10 @@
 // Blocks of 512 bytes: words, check words, numbers and payloads. Public: `payload`; what the crates of files need besides is in `words`,
-// `block`, `files` and `tables`. Relies on `numbers`.
+// `block` and `files`, and in the crate `block_tables` above. Relies on `numbers`.
 ghost use denote.Ref.{ptr};
 ghost use Rattle.blocks.specs.Blocks.{PayloadContract};
 
 pub mod block;
 pub mod files;
-pub mod tables;
 pub mod words;
 
 // The payload of block `number`, counted from 1: that part of the file itself, or the empty part at its start where the file has no such block.

@@ -5,7 +5,7 @@ use Prim.Native.Nat.{ℕ, _+_}
 use lib.IntN.{ℤ}
 use Rattle.numbers.specs.Lists.{listTo, written}
 use Rattle.blocks.specs.Words.{wordSigned}
-use Rattle.blocks.specs.Tables.{tableWord, listTable}
+use Rattle.block_tables.specs.Tables.{tableWord, listTable}
 use Rattle.qlt_spec.specs.Field.{Lists, lists}
 use Rattle.files_spec.specs.FieldFile.{cellBlocks, cellWord}
 use Rattle.files_spec.specs.ReadField.{fileCells, fileNodes, fileLists, listsRead}

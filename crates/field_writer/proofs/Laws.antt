@@ -8,8 +8,8 @@ use Rattle.numbers.specs.Lists.{at, atℤ, listTo, written}
 use Rattle.numbers.proofs.ListLaws.{length-listTo, getD-listTo}
 use Rattle.numbers.proofs.PartLaws.{front-written}
 use Rattle.blocks.specs.Words.{signedWord}
-use Rattle.blocks.specs.Tables.{tableBytes}
-use Rattle.blocks.proofs.TableLaws.{tableBytes-ext}
+use Rattle.block_tables.specs.Tables.{tableBytes}
+use Rattle.block_tables.proofs.TableLaws.{tableBytes-ext}
 use Rattle.qlt_spec.specs.Field.{Lists}
 use Rattle.files_spec.specs.FieldFile.{cellTable, cellWords}
 use Rattle.files_spec.proofs.ReadLaws.{cell-fits}

@@ -6,15 +6,15 @@ ghost use lib.Signed.{mag};
 ghost use lib.ListN.{length};
 ghost use Rattle.numbers.specs.Lists.{at, atℤ, written};
 ghost use Rattle.blocks.specs.Blocks.{blockBytes};
-ghost use Rattle.blocks.specs.Tables.{tableUsed, tableWords, tableBytes};
+ghost use Rattle.block_tables.specs.Tables.{tableUsed, tableWords, tableBytes};
 ghost use Rattle.qlt_spec.specs.Field.{lists};
 ghost use Rattle.files_spec.specs.FieldFile.{cellTable, cellBlocks, cellWords};
 ghost use Rattle.files_spec.specs.ReadField.{Room};
 ghost use Rattle.field_writer.specs.Cells.{sixWords, SixLong};
+use block_tables::tables::signed_words;
+use block_tables::tables::table_blocks;
+use block_tables::tables::table_used;
 use blocks::block::fill_block;
-use blocks::tables::signed_words;
-use blocks::tables::table_blocks;
-use blocks::tables::table_used;
 use files_spec::CELLS;
 
 // Word j of cell i, the targets as words.

@@ -2,8 +2,8 @@
 ghost use mathlib.Core.Path.{_≡_};
 ghost use Prim.Native.Nat.{_*_, _≤_, _<_, _^_};
 ghost use Rattle.files_spec.specs.FieldFile.{fieldBlocks};
-use blocks::tables::LIST;
-use blocks::tables::table_blocks;
+use block_tables::tables::LIST;
+use block_tables::tables::table_blocks;
 use files_spec::CELLS;
 
 // How many blocks a file of n cells and m nodes has.

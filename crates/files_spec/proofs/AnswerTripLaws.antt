@@ -16,11 +16,11 @@ use Rattle.numbers.proofs.ListLaws.{getD-listTo}
 use Rattle.numbers.proofs.PartLaws.{front-written, written-own, length-kept}
 use Rattle.blocks.specs.Words.{Bytes, Words, lowWord, highWord, twoWords}
 use Rattle.blocks.specs.Blocks.{blockOf, payloadWord, SoundBlock, SpareZero, IsFile}
-use Rattle.blocks.specs.Tables.{tableUsed, tableWord, listTable}
+use Rattle.block_tables.specs.Tables.{tableUsed, tableWord, listTable}
 use Rattle.blocks.proofs.WordLaws.{words-listTo, two-words-back, low-word-fits, high-word-fits, low-word-back, high-word-back, two-words-fit}
 use Rattle.blocks.proofs.BlockLaws.{payloadWord-small}
 use Rattle.blocks.proofs.FileLaws.{length-fileBytes, fileBytes-bytes, fileBytes-ext, each-block, file-word, file-fits, file-own}
-use Rattle.blocks.proofs.TableLaws.{length-tableWords, tableWords-small, tableWords-ext, table-back, table-own, list-fits}
+use Rattle.block_tables.proofs.TableLaws.{length-tableWords, tableWords-small, tableWords-ext, table-back, table-own, list-fits}
 use Rattle.qlt_spec.specs.declared.Repair.{Repair}
 use Rattle.files_spec.specs.AnswerFile.{answerBlocks, headUsed, answerHead, massBlock, answerWords, answerBytes, answerUsed, massWord, AnswerTyped}
 use Rattle.files_spec.specs.WriteAnswer.{WriteCall, writeCall, writeVerdict, WriteFits, writeTells, WriteContract}

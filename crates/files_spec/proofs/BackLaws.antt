@@ -14,11 +14,11 @@ use Rattle.numbers.specs.Lists.{at, atℤ, listTo}
 use Rattle.numbers.proofs.ListLaws.{length-listTo, getD-listTo}
 use Rattle.blocks.specs.Words.{Words, wordSigned}
 use Rattle.blocks.specs.Blocks.{blockOf, payloadWord, checkBlock, SoundBlock, SpareZero}
-use Rattle.blocks.specs.Tables.{tableUsed, listTable}
+use Rattle.block_tables.specs.Tables.{tableUsed, listTable}
 use Rattle.blocks.proofs.WordLaws.{signed-back}
 use Rattle.blocks.proofs.BlockLaws.{block-fits}
 use Rattle.blocks.proofs.FileLaws.{length-fileBytes, file-word, file-passes}
-use Rattle.blocks.proofs.TableLaws.{length-tableWords, tableWords-small, table-back, list-fits}
+use Rattle.block_tables.proofs.TableLaws.{length-tableWords, tableWords-small, table-back, list-fits}
 use Rattle.qlt_spec.specs.Field.{Lists, cells, nodes}
 use Rattle.files_spec.specs.FieldFile.{cellTable, cellBlocks, fieldBlocks, cellWords, cellBlock, parentBlock, fieldWords, fieldBytes, fieldUsed, cellWord, parentWord}
 use Rattle.files_spec.specs.ReadField.{fileCells, fileNodes, fileTotal, Room, HeadFits, sizesOf, fileLists}

@@ -17,11 +17,11 @@ use Rattle.numbers.proofs.ListLaws.{length-listTo, getD-listTo}
 use Rattle.numbers.proofs.PartLaws.{front-written, written-own}
 use Rattle.blocks.specs.Words.{Bytes, signedWord, wordSigned}
 use Rattle.blocks.specs.Blocks.{fileBytes, blockOf, payloadWord, SoundBlock, SpareZero}
-use Rattle.blocks.specs.Tables.{tableUsed, tableWords, tableWord, listTable}
+use Rattle.block_tables.specs.Tables.{tableUsed, tableWords, tableWord, listTable}
 use Rattle.blocks.proofs.WordLaws.{word-signed-back, word-signed-fits, words-listTo}
 use Rattle.blocks.proofs.BlockLaws.{payloadWord-small}
 use Rattle.blocks.proofs.FileLaws.{length-fileBytes, fileBytes-bytes, each-block, file-fits, file-own}
-use Rattle.blocks.proofs.TableLaws.{tableWords-ext, table-own, list-fits}
+use Rattle.block_tables.proofs.TableLaws.{tableWords-ext, table-own, list-fits}
 use Rattle.qlt_spec.specs.Field.{Lists, lists, cells, nodes}
 use Rattle.files_spec.specs.FieldFile.{cellTable, cellBlocks, fieldBlocks, cellWords, fieldWords, fieldBytes, fieldUsed, cellWord, parentWord, fronts, overFronts, FieldTyped}
 use Rattle.files_spec.specs.ReadField.{fileCells, fileNodes, fileTotal, readVerdict, Room, ReadFits, sizesOf, readTells, fileLists, ReadContract}

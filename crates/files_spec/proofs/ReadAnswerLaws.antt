@@ -20,10 +20,10 @@ use Rattle.numbers.proofs.ListLaws.{length-listTo, getD-listTo}
 use Rattle.numbers.proofs.CheckLaws.{both-first, both-second, both-assoc, both-pass, each-ext, answered-accepted, answered-refused, decides-then, decides-none, alone, decides-append, decides-each, count-decides, long-decides}
 use Rattle.numbers.proofs.ChainLaws.{refuse-with, refuse-each, refuse-append}
 use Rattle.blocks.specs.Blocks.{blockOf, payloadWord, checkBlock, SoundBlock, SpareZero, blockRules}
-use Rattle.blocks.specs.Tables.{tableUsed, HasTable, checkTable, listTable}
+use Rattle.block_tables.specs.Tables.{tableUsed, HasTable, checkTable, listTable}
 use Rattle.blocks.proofs.BlockLaws.{sound-decides, spare-decides, block-decides}
 use Rattle.blocks.proofs.FileLaws.{length-decides, blocks-decides, mark-decides, later-fits}
-use Rattle.blocks.proofs.TableLaws.{tableUsed-small, used-same, list-fits}
+use Rattle.block_tables.proofs.TableLaws.{tableUsed-small, used-same, list-fits}
 use Rattle.qlt_spec.specs.declared.Repair.{Repair}
 use Rattle.files_spec.specs.declared.AnswerRead.{AnswerRead}
 use Rattle.files_spec.specs.declared.AnswerRead.the-variants.{Read, Refused}

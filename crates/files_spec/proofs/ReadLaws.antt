@@ -16,10 +16,10 @@ use Rattle.numbers.proofs.TestLaws.{and-means, le-means, injective}
 use Rattle.numbers.proofs.CheckLaws.{on, both-first, both-second, both-pass, unless-and, each-append, each-ext, answered-accepted, answered-refused, decides-unless, decides-then, decides-none, decides-append, decides-each, count-decides}
 use Rattle.numbers.proofs.ChainLaws.{refuse-with, refuse-each}
 use Rattle.blocks.specs.Blocks.{blockOf, checkBlock, SoundBlock, SpareZero, blockRules}
-use Rattle.blocks.specs.Tables.{tableBlocks, tableUsed, TableFits, HasTable, checkTable, listTable}
+use Rattle.block_tables.specs.Tables.{tableBlocks, tableUsed, TableFits, HasTable, checkTable, listTable}
 use Rattle.blocks.proofs.BlockLaws.{sound-decides, spare-decides, block-decides}
 use Rattle.blocks.proofs.FileLaws.{length-decides, blocks-decides, mark-decides, later-fits}
-use Rattle.blocks.proofs.TableLaws.{tableUsed-small, used-same, list-fits}
+use Rattle.block_tables.proofs.TableLaws.{tableUsed-small, used-same, list-fits}
 use Rattle.qlt_spec.specs.Field.{Lists}
 use Rattle.qlt_spec.proofs.CheckLaws.{nodes-decides}
 use Rattle.files_spec.specs.declared.FieldRead.{FieldRead}

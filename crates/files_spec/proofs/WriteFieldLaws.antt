@@ -16,9 +16,9 @@ use Rattle.numbers.proofs.PartLaws.{written-on}
 use Rattle.numbers.proofs.CheckLaws.{decides-then, decides-none, count-decides, long-decides}
 use Rattle.numbers.proofs.ChainLaws.{refuse-with}
 use Rattle.blocks.specs.Blocks.{blockBytes, fileBytes}
-use Rattle.blocks.specs.Tables.{tableBytes, listTable}
+use Rattle.block_tables.specs.Tables.{tableBytes, listTable}
 use Rattle.blocks.proofs.BlockLaws.{length-blockBytes}
-use Rattle.blocks.proofs.TableLaws.{list-fits, length-tableBytes, table-file, tableBytes-ext}
+use Rattle.block_tables.proofs.TableLaws.{list-fits, length-tableBytes, table-file, tableBytes-ext}
 use Rattle.qlt_spec.specs.Field.{Lists, cells, nodes}
 use Rattle.qlt_spec.proofs.CheckLaws.{nodes-decides}
 use Rattle.files_spec.specs.declared.FieldWritten.{FieldWritten}

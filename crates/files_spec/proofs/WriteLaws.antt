@@ -17,10 +17,10 @@ use Rattle.numbers.proofs.SumLaws.{sumTo-ext}
 use Rattle.numbers.proofs.CheckLaws.{decides-for, decides-unless, decides-then, decides-none, count-decides}
 use Rattle.numbers.proofs.ChainLaws.{refuse-with}
 use Rattle.blocks.specs.Blocks.{blockBytes, fileBytes}
-use Rattle.blocks.specs.Tables.{tableBytes, listTable}
+use Rattle.block_tables.specs.Tables.{tableBytes, listTable}
 use Rattle.numbers.proofs.PartLaws.{written-on}
 use Rattle.blocks.proofs.BlockLaws.{length-blockBytes}
-use Rattle.blocks.proofs.TableLaws.{list-fits, table-file}
+use Rattle.block_tables.proofs.TableLaws.{list-fits, table-file}
 use Rattle.qlt_spec.specs.declared.Repair.{Repair}
 use Rattle.files_spec.specs.declared.AnswerWritten.{AnswerWritten}
 use Rattle.files_spec.specs.declared.AnswerWritten.the-variants.{Bytes, Refused}

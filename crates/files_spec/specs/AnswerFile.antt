@@ -5,7 +5,7 @@ use Prim.Native.Nat.{ℕ, _+_, _-_, _^_, _<_}
 use lib.Dec.{leb}
 use Rattle.blocks.specs.Words.{Words, lowWord, highWord}
 use Rattle.blocks.specs.Blocks.{fileBytes}
-use Rattle.blocks.specs.Tables.{tableBlocks, tableUsed, tableWord, listTable, listBlock}
+use Rattle.block_tables.specs.Tables.{tableBlocks, tableUsed, tableWord, listTable, listBlock}
 use Rattle.qlt_spec.specs.declared.Repair.{Repair}
 
 -- what is told of a repaired field: its number of cells, and the repair

@@ -8,9 +8,9 @@ use lib.Signed.{_≤ℤ_}
 use lib.ListN.{take}
 use Rattle.numbers.specs.Lists.{at, atℤ, written}
 use Rattle.blocks.specs.Words.{Words, signedWord}
-use Rattle.blocks.specs.declared.tables.Table.{Table}
+use Rattle.block_tables.specs.declared.tables.Table.{Table}
 use Rattle.blocks.specs.Blocks.{fileBytes}
-use Rattle.blocks.specs.Tables.{table, tableBlocks, tableUsed, tableWords, tableWord, listTable, listBlock}
+use Rattle.block_tables.specs.Tables.{table, tableBlocks, tableUsed, tableWords, tableWord, listTable, listBlock}
 use Rattle.qlt_spec.specs.Field.{Lists, lists, cells, nodes}
 
 -- ---- sizes: one block, then cells, 20 to a block, six words each, then parents, 125 to a block

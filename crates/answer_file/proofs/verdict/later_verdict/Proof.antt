@@ -1,7 +1,7 @@
 -- `answer_file::verdict::later_verdict` meets its contract: the blocks of the masses.
 use mathlib.Core.Path.{sym, ap, _∙_}
 use native.Mathlib.Omega.{arith}
-use Rattle.blocks.specs.Tables.{checkTable, listTable}
+use Rattle.block_tables.specs.Tables.{checkTable, listTable}
 use Rattle.files_spec.proofs.ReadAnswerLaws.{has-masses, answer-later-table}
 use borrow.Author.Needs.{needs}
 use Rattle.answer_file.proofs.verdict.later_verdict.Statement.{statement}

@@ -3,7 +3,7 @@ use mathlib.Core.Path.{_∙_, ap}
 use Prim.Native.Nat.{_*_, _-_}
 use native.Mathlib.Omega.{arith}
 use Rattle.numbers.specs.Lists.{at, written}
-use Rattle.blocks.specs.Tables.{tableBytes, listTable}
+use Rattle.block_tables.specs.Tables.{tableBytes, listTable}
 use Rattle.files_spec.specs.AnswerFile.{massBlocks}
 use Rattle.files_spec.proofs.WriteLaws.{answer-written}
 use borrow.Author.Needs.{needs}

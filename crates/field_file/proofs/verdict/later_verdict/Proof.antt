@@ -3,7 +3,7 @@ use mathlib.Core.Path.{sym, ap, ap₂, _∙_, subst}
 use Prim.Native.Nat.{_+_}
 use native.Mathlib.Omega.{arith}
 use Rattle.numbers.specs.Checks.{both}
-use Rattle.blocks.specs.Tables.{HasTable, checkTable, listTable}
+use Rattle.block_tables.specs.Tables.{HasTable, checkTable, listTable}
 use Rattle.files_spec.specs.FieldFile.{cellTable, cellBlocks}
 use Rattle.files_spec.proofs.ReadLaws.{cell-fits, has-cells, has-parents, later-tables}
 use borrow.Author.Needs.{needs}

@@ -2,8 +2,8 @@
 use Prim.Native.Nat.{_*_, _≤_}
 use native.Mathlib.Omega.{arith}
 use lib.ListN.{length}
-use Rattle.blocks.specs.Tables.{HasTable}
-use Rattle.blocks.proofs.TableLaws.{list-fits}
+use Rattle.block_tables.specs.Tables.{HasTable}
+use Rattle.block_tables.proofs.TableLaws.{list-fits}
 use Rattle.qlt_spec.specs.Field.{Lists, lists}
 use Rattle.files_spec.specs.FieldFile.{cellTable, fieldBlocks}
 use Rattle.files_spec.specs.ReadField.{Room}

@@ -7,8 +7,8 @@ use native.Mathlib.Omega.{arith}
 use lib.ListN.{length, length-set}
 use Rattle.numbers.specs.Lists.{at, listTo, written}
 use Rattle.numbers.proofs.ListLaws.{written-none, next-entry}
-use Rattle.blocks.specs.Tables.{tableWords}
-use Rattle.blocks.proofs.TableLaws.{record-of}
+use Rattle.block_tables.specs.Tables.{tableWords}
+use Rattle.block_tables.proofs.TableLaws.{record-of}
 use Rattle.files_spec.specs.FieldFile.{cellTable}
 use Rattle.files_spec.proofs.ReadLaws.{cell-fits}
 use Rattle.field_writer.specs.Cells.{sixWords}

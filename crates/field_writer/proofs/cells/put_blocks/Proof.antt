@@ -7,8 +7,8 @@ use native.Mathlib.Omega.{arith}
 use lib.ListN.{length}
 use Rattle.numbers.specs.Lists.{at, written}
 use Rattle.blocks.specs.Blocks.{blockBytes}
-use Rattle.blocks.specs.Tables.{tableWords, tableBytes}
-use Rattle.blocks.proofs.TableLaws.{block-some, table-none, table-next}
+use Rattle.block_tables.specs.Tables.{tableWords, tableBytes}
+use Rattle.block_tables.proofs.TableLaws.{block-some, table-none, table-next}
 use Rattle.files_spec.specs.FieldFile.{cellTable}
 use Rattle.files_spec.proofs.ReadLaws.{cell-fits}
 use Rattle.field_writer.specs.Cells.{sixWords}

@@ -9,9 +9,9 @@ use borrow.Rule.Slice.PartMut.{putMid}
 use Rattle.numbers.specs.Lists.{at}
 use Rattle.numbers.proofs.PartLaws.{front-written, put-back}
 use Rattle.blocks.specs.Blocks.{blockBytes}
-use Rattle.blocks.specs.Tables.{tableWords}
+use Rattle.block_tables.specs.Tables.{tableWords}
 use Rattle.blocks.proofs.BlockLaws.{length-blockBytes}
-use Rattle.blocks.proofs.TableLaws.{length-tableWords}
+use Rattle.block_tables.proofs.TableLaws.{length-tableWords}
 use Rattle.files_spec.specs.FieldFile.{cellTable}
 use Rattle.files_spec.proofs.ReadLaws.{cell-fits}
 use Rattle.field_writer.specs.Cells.{sixWords}

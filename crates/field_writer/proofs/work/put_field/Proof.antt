@@ -2,7 +2,7 @@
 use mathlib.Core.Path.{_∙_, ap}
 use Prim.Native.Nat.{_+_, _*_, _-_}
 use Rattle.numbers.specs.Lists.{at, written}
-use Rattle.blocks.specs.Tables.{tableBytes, listTable}
+use Rattle.block_tables.specs.Tables.{tableBytes, listTable}
 use Rattle.qlt_spec.specs.Field.{Lists, lists}
 use Rattle.files_spec.specs.FieldFile.{cellBlocks, parentBlocks}
 use Rattle.files_spec.proofs.WriteFieldLaws.{cellBytes, parentBytes, field-written}

@@ -1,9 +1,9 @@
--- `blocks::tables::table_blocks` meets its contract: a block has few records, so nothing overflows.
+-- `block_tables::tables::table_blocks` meets its contract: a block has few records, so nothing overflows.
 use native.Mathlib.Omega.{arith}
-use Rattle.blocks.proofs.TableLaws.{records-few}
+use Rattle.block_tables.proofs.TableLaws.{records-few}
 use borrow.Author.Needs.{needs}
-use Rattle.blocks.proofs.tables.table_blocks.Statement.{statement}
-use Rattle.blocks.proofs.tables.table_blocks.Tie as tie
+use Rattle.block_tables.proofs.tables.table_blocks.Statement.{statement}
+use Rattle.block_tables.proofs.tables.table_blocks.Tie as tie
 
 sub-result : tie.Need-sub-result
 sub-result c = search needs

@@ -1,11 +1,11 @@
--- `blocks::tables::table_word` meets its contract: the word lies in the payload of its block.
+-- `block_tables::tables::table_word` meets its contract: the word lies in the payload of its block.
 use Prim.Native.Nat.{_+_, _*_, _%_, _<_}
 use native.Mathlib.Omega.{arith}
-use Rattle.blocks.specs.Tables.{tableWord}
-use Rattle.blocks.proofs.TableLaws.{word-in}
+use Rattle.block_tables.specs.Tables.{tableWord}
+use Rattle.block_tables.proofs.TableLaws.{word-in}
 use borrow.Author.Needs.{needs}
-use Rattle.blocks.proofs.tables.table_word.Statement.{statement}
-use Rattle.blocks.proofs.tables.table_word.Tie as tie
+use Rattle.block_tables.proofs.tables.table_word.Statement.{statement}
+use Rattle.block_tables.proofs.tables.table_word.Tie as tie
 
 inside : (c : tie.Start) → c .args .table .words * (c .args .i % c .args .table .records) + c .args .j < 125
 inside c = word-in (c .args .table) (c .pre .0) (c .args .i) (c .args .j) (c .pre .3)

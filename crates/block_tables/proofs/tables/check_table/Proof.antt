@@ -1,4 +1,4 @@
--- `blocks::tables::check_table` meets its contract: the verdict is that of the blocks from b on.
+-- `block_tables::tables::check_table` meets its contract: the verdict is that of the blocks from b on.
 use mathlib.Core.Path.{_≡_, sym, ap, _∙_}
 use mathlib.Core.List.{List}
 use Prim.Native.Nat.{ℕ, _-_, _≤_}
@@ -6,13 +6,13 @@ use native.Mathlib.Omega.{arith}
 use Rattle.numbers.specs.declared.Checked.{Checked}
 use Rattle.numbers.specs.Checks.{eachFrom}
 use Rattle.numbers.proofs.CheckLaws.{each-on, each-here, each-none}
 use Rattle.blocks.specs.Blocks.{checkBlock}
-use Rattle.blocks.specs.declared.tables.Table.{Table}
-use Rattle.blocks.specs.Tables.{tableUsed, checkTable}
-use Rattle.blocks.proofs.TableLaws.{block-some, used-same}
+use Rattle.block_tables.specs.declared.tables.Table.{Table}
+use Rattle.block_tables.specs.Tables.{tableUsed, checkTable}
+use Rattle.block_tables.proofs.TableLaws.{block-some, used-same}
 use borrow.Author.Needs.{needs}
-use Rattle.blocks.proofs.tables.check_table.Statement.{statement}
-use Rattle.blocks.proofs.tables.check_table.Tie as tie
+use Rattle.block_tables.proofs.tables.check_table.Statement.{statement}
+use Rattle.block_tables.proofs.tables.check_table.Tie as tie
 
 abbrev Inv-loop : tie.InvT-loop
 Inv-loop file table from n end b₀ b =

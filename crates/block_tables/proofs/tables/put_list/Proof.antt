@@ -1,4 +1,4 @@
--- `blocks::tables::put_list` meets its contract: the blocks before k stand in the buffer, the rest is as it was.
+-- `block_tables::tables::put_list` meets its contract: the blocks before k stand in the buffer, the rest is as it was.
 use mathlib.Core.Path.{_≡_, refl, ap, _∙_}
 use mathlib.Core.List.{List}
 use Prim.Native.Nat.{ℕ, _+_, _*_, _-_, _≤_}
@@ -6,11 +6,11 @@ use native.Mathlib.Nat.{le-antisymm}
 use native.Mathlib.Omega.{arith}
 use lib.ListN.{length}
 use Rattle.numbers.specs.Lists.{at, written}
 use Rattle.blocks.specs.Blocks.{blockBytes}
-use Rattle.blocks.specs.Tables.{tableBytes, listTable, listBlock}
-use Rattle.blocks.proofs.TableLaws.{list-fits, block-some, table-none, table-next}
-use Rattle.blocks.proofs.tables.put_list.Statement.{statement}
-use Rattle.blocks.proofs.tables.put_list.Tie as tie
+use Rattle.block_tables.specs.Tables.{tableBytes, listTable, listBlock}
+use Rattle.block_tables.proofs.TableLaws.{list-fits, block-some, table-none, table-next}
+use Rattle.block_tables.proofs.tables.put_list.Statement.{statement}
+use Rattle.block_tables.proofs.tables.put_list.Tie as tie
 
 -- the first k blocks of the list
 abbrev bytes : List ℕ → ℕ → ℕ → ℕ → List ℕ

@@ -1,4 +1,4 @@
--- `blocks::tables::signed_words` meets its contract: the entries before the index are the words of the numbers, which were read and so fit; the
+-- `block_tables::tables::signed_words` meets its contract: the entries before the index are the words of the numbers, which were read and so fit; the
 -- rest is as it was.
 use mathlib.Core.Path.{_≡_, refl, ap, _∙_}
 use Prim.Native.Nat.{ℕ, _-_, _^_, _≤_, _<_}
@@ -11,9 +11,9 @@ use mir.Syntax.{w32}
 use mir.ValLaws.{toZ-ofZ}
 use Rattle.numbers.specs.Lists.{atℤ, listTo, written}
 use Rattle.numbers.proofs.ListLaws.{written-none, next-entry}
 use Rattle.blocks.specs.Words.{signedWord}
-use Rattle.blocks.proofs.tables.signed_words.Statement.{statement}
-use Rattle.blocks.proofs.tables.signed_words.Tie as tie
+use Rattle.block_tables.proofs.tables.signed_words.Statement.{statement}
+use Rattle.block_tables.proofs.tables.signed_words.Tie as tie
 
 abbrev Inv-loop : tie.InvT-loop
 Inv-loop list n words₀ i₀ words i =

@@ -11,13 +11,13 @@ use Rattle.numbers.specs.Lists.{at, listTo, written}
 use Rattle.numbers.specs.Checks.{both}
 use Rattle.numbers.proofs.ListLaws.{length-listTo, getD-listTo, listTo-ext}
 use Rattle.numbers.proofs.PartLaws.{getD-part, written-empty, written-on}
-use Rattle.blocks.specs.declared.tables.Table.{Table}
+use Rattle.block_tables.specs.declared.tables.Table.{Table}
 use Rattle.blocks.specs.Words.{Words}
 use Rattle.blocks.specs.Blocks.{blockBytes, fileBytes, payloadWord, checkSound, checkSpare, checkBlock}
-use Rattle.blocks.specs.Tables.{tableBlocks, tableUsed, TableFits, tableWords, tableBytes, tableWord, HasTable, listTable, listBlock}
+use Rattle.block_tables.specs.Tables.{tableBlocks, tableUsed, TableFits, tableWords, tableBytes, tableWord, HasTable, listTable, listBlock}
 use Rattle.blocks.proofs.WordLaws.{words-listTo}
 use Rattle.blocks.proofs.BlockLaws.{length-blockBytes}
 use Rattle.blocks.proofs.FileLaws.{fileBytes-next, file-word}
 
 module _ (T : Table) (g : TableFits T) where
   abbrev w : ℕ

@@ -1,12 +1,12 @@
--- `blocks::tables::table_used` meets its contract: the words are no more than a payload has.
+-- `block_tables::tables::table_used` meets its contract: the words are no more than a payload has.
 use mathlib.Core.Path.{_≡_, ap}
 use Prim.Native.Nat.{_*_, _≤_}
 use native.Mathlib.Omega.{arith}
-use Rattle.blocks.specs.Tables.{tableUsed}
-use Rattle.blocks.proofs.TableLaws.{tableUsed-small}
+use Rattle.block_tables.specs.Tables.{tableUsed}
+use Rattle.block_tables.proofs.TableLaws.{tableUsed-small}
 use borrow.Author.Needs.{needs}
-use Rattle.blocks.proofs.tables.table_used.Statement.{statement}
-use Rattle.blocks.proofs.tables.table_used.Tie as tie
+use Rattle.block_tables.proofs.tables.table_used.Statement.{statement}
+use Rattle.block_tables.proofs.tables.table_used.Tie as tie
 
 mul-least : tie.Need-mul-least
 mul-least c = search needs

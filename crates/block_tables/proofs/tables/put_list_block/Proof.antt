@@ -1,16 +1,16 @@
--- `blocks::tables::put_list_block` meets its contract: the numbers of the block, cut from the list, fill the part that is that block.
+-- `block_tables::tables::put_list_block` meets its contract: the numbers of the block, cut from the list, fill the part that is that block.
 use mathlib.Core.Path.{_∙_, ap}
 use Prim.Native.Nat.{_+_, _*_, _-_}
 use native.Mathlib.Omega.{arith}
 use borrow.Rule.Slice.PartMut.{putMid}
 use Rattle.numbers.proofs.PartLaws.{put-back}
 use Rattle.blocks.specs.Blocks.{blockBytes}
-use Rattle.blocks.specs.Tables.{listBlock}
+use Rattle.block_tables.specs.Tables.{listBlock}
 use Rattle.blocks.proofs.BlockLaws.{length-blockBytes}
-use Rattle.blocks.proofs.TableLaws.{list-part}
+use Rattle.block_tables.proofs.TableLaws.{list-part}
 use borrow.Author.Needs.{needs}
-use Rattle.blocks.proofs.tables.put_list_block.Statement.{statement}
-use Rattle.blocks.proofs.tables.put_list_block.Tie as tie
+use Rattle.block_tables.proofs.tables.put_list_block.Statement.{statement}
+use Rattle.block_tables.proofs.tables.put_list_block.Tie as tie
 
 mul-first : tie.Need-mul-first
 mul-first c = search needs

@@ -5,8 +5,8 @@ use lib.ListN.{length}
 use Rattle.numbers.specs.declared.Checked.{Checked}
 use Rattle.numbers.specs.Lists.{at, listTo}
 use Rattle.numbers.specs.Checks.{eachFrom}
-use Rattle.blocks.specs.declared.tables.Table.{Table}
+use Rattle.block_tables.specs.declared.tables.Table.{Table}
 use Rattle.blocks.specs.Blocks.{blockBytes, payloadWord, checkBlock}
 
 abbrev pub table : ℕ → ℕ → Table
 table words records = record { words = words; records = records }

@@ -1,14 +1,14 @@
--- `blocks::tables::sum_column` meets its contract: the sum so far is that of the records passed, and less than 2 ^ 32 for each of them.
+-- `block_tables::tables::sum_column` meets its contract: the sum so far is that of the records passed, and less than 2 ^ 32 for each of them.
 use mathlib.Core.Path.{_≡_}
 use Prim.Native.Nat.{_*_, _-_, _≤_}
 use native.Mathlib.Omega.{arith}
 use native.Mathlib.Numerals.{add-one}
 use Rattle.numbers.specs.Sums.{ℕ-adds, sumTo}
 use Rattle.numbers.proofs.SumLaws.{sumTo-next}
-use Rattle.blocks.specs.Tables.{tableWord}
-use Rattle.blocks.proofs.TableLaws.{table-room}
-use Rattle.blocks.proofs.tables.sum_column.Statement.{statement}
-use Rattle.blocks.proofs.tables.sum_column.Tie as tie
+use Rattle.block_tables.specs.Tables.{tableWord}
+use Rattle.block_tables.proofs.TableLaws.{table-room}
+use Rattle.block_tables.proofs.tables.sum_column.Statement.{statement}
+use Rattle.block_tables.proofs.tables.sum_column.Tie as tie
 
 abbrev Inv-loop : tie.InvT-loop
 Inv-loop file table from j n sum₀ i₀ sum i = (i ≤ n) × (sum ≡ sumTo ℕ-adds i (tableWord table file from j)) × (sum ≤ i * 4294967295)

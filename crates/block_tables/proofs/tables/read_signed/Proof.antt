@@ -1,4 +1,4 @@
--- `blocks::tables::read_signed` meets its contract: the entries before the index are the records' numbers, the rest is as it was.
+-- `block_tables::tables::read_signed` meets its contract: the entries before the index are the records' numbers, the rest is as it was.
 use mathlib.Core.Path.{_≡_, refl, ap, _∙_}
 use Prim.Native.Nat.{ℕ, _-_, _≤_}
 use native.Mathlib.Nat.{le-antisymm}
@@ -10,11 +10,11 @@ use mir.Val.{toZ, ofZ}
 use mir.ValLaws.{toZ-ofZ}
 use Rattle.numbers.specs.Lists.{listTo, written}
 use Rattle.numbers.proofs.ListLaws.{written-none, next-entry}
 use Rattle.blocks.specs.Words.{wordSigned}
-use Rattle.blocks.specs.Tables.{tableWord}
-use Rattle.blocks.proofs.TableLaws.{table-room}
-use Rattle.blocks.proofs.tables.read_signed.Statement.{statement}
-use Rattle.blocks.proofs.tables.read_signed.Tie as tie
+use Rattle.block_tables.specs.Tables.{tableWord}
+use Rattle.block_tables.proofs.TableLaws.{table-room}
+use Rattle.block_tables.proofs.tables.read_signed.Statement.{statement}
+use Rattle.block_tables.proofs.tables.read_signed.Tie as tie
 
 abbrev Inv-loop : tie.InvT-loop
 Inv-loop file table from j n list₀ i₀ list i =

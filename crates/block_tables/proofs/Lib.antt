@@ -1,0 +1,2 @@
+-- The laws of tables, over the definitions of specs/ alone.
+pub mod TableLaws
