@@ -1,11 +1,12 @@
-// The operations Import and Export, and Export in binary32. Public: `import`, `export`, `export_single`. Below them, for this crate alone: a
-// double by the cases of IEEE 754 (`cases`), divisions that are rounded (`rounding`), what a double gives in a field (`fields`), powers of
-// two as doubles (`power`), a mass as a binary32 (`singles`). Relies on `doubles_spec` and `numbers`.
+// The operations Import and Export, and Export in binary32. Public: `import`, `export`, `export_single`. Below them, for this crate alone: powers
+// of two as doubles (`power`), a mass as a binary32 (`singles`). What a double gives in a field is in the crate `double_fields`. Relies on this,
+// `rounded_division`, `doubles_spec` and `numbers`.
 ghost use mathlib.Core.Path.{_≡_};
 ghost use Rattle.doubles_spec.specs.declared.Imported.the-variants.{Refused};
 ghost use Rattle.doubles_spec.specs.Import.{ImportContract};
 ghost use Rattle.doubles_spec.specs.Export.{checkMass, exportVerdict, ExportContract};
 ghost use Rattle.doubles_spec.specs.ExportSingle.{SingleContract};
+use double_fields::fields;
 use doubles_spec::BoundField;
 use doubles_spec::CellDoubles;
 use doubles_spec::CellUnits;
@@ -18,10 +19,7 @@ use numbers::checks::check_scale;
 use numbers::checks::then;
 use numbers::checks::unless;
 
-mod cases;
-mod fields;
 mod power;
-mod rounding;
 mod singles;
 
 // A field's refusal, with its double as it came.

@@ -3,7 +3,7 @@ ghost use mathlib.Core.Path.{_≡_};
 ghost use Prim.Native.Nat.{_<_, _≤_, _^_};
 ghost use Rattle.doubles_spec.specs.ExportSingle.{exportSingle};
 ghost use Rattle.doubles_spec.specs.Forms.{HighestBit, significand};
-use crate::rounding::closest;
+use rounded_division::rounding::closest;
 
 // The lowest bit of the exponent; the fraction is below it.
 const EXPONENT: u32 = 0x80_0000;
