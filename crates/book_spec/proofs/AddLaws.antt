@@ -2,22 +2,20 @@
 use mathlib.Core.Path.{_≡_, refl, sym, _∙_, ap, ap₂, subst}
 use mathlib.Core.Logic.{_≢_}
 use mathlib.Core.List.{List, [], _∷_, _++_, append-assoc}
-use Prim.Native.Nat.{ℕ, zero, suc, _+_, _*_, _-_, _/_, _%_, _^_, _≤_, _<_, min}
+use Prim.Native.Nat.{ℕ, zero, suc, _+_, _*_, _-_, _/_, _%_, _^_, _≤_, _<_}
 use native.Mathlib.Omega.{arith}
 use native.Mathlib.Decide.{ℕ-discrete, decLt}
-use lib.IntN.{ℤ, pos, negsuc, _+ℤ_}
+use lib.IntN.{pos, negsuc, _+ℤ_}
 use lib.Signed.{_≤ℤ_}
-use lib.ListN.{length, getD, take, drop, set, length-append, length-set, List·getD-append, List·getD-eq-default}
-use lib.Seq.{ext-getD, getD-at, getD-set-same, getD-set-other, take-all, take-take, take-append-le}
-use Rattle.numbers.specs.Sums.{ℤ-adds, sumTo}
+use lib.ListN.{length, take, drop, set, length-append, length-set, List·getD-append}
+use lib.Seq.{ext-getD, getD-at, getD-set-same, getD-set-other, take-take}
 use Rattle.numbers.specs.Lists.{at, written}
-use Rattle.numbers.proofs.SumLaws.{sumTo-next, sumTo-ext}
 use Rattle.numbers.proofs.ListLaws.{listTo-ext}
 use Rattle.blocks.specs.Blocks.{blockBytes, fileBytes}
 use Rattle.blocks.specs.Words.{signedWord}
 use Rattle.blocks.proofs.FileLaws.{length-fileBytes, fileBytes-ext, fileBytes-front}
 use Rattle.blocks.proofs.BlockLaws.{length-blockBytes}
-use Rattle.book_spec.specs.Book.{Entry, unused, Book, book, count, entryAt, totalAfter, closing, recorded, add, maxEntries, WellFormed, bookBlocks, bookWord, bookWords, bookBytes}
+use Rattle.book_spec.specs.Book.{Entry, unused, Book, count, entryAt, totalAfter, closing, add, maxEntries, WellFormed, bookBlocks, bookWord, bookWords, bookBytes}
 use Rattle.book_spec.proofs.WordLaws.{word-source, word-outcome, word-total, word-opens, word-used, words-same, words-at, length-bookWords, entry-past}
 use Rattle.book_spec.proofs.BackLaws.{word-past}
 
@@ -49,16 +47,7 @@ module _ (B : Book) (e : Entry) where
   unfolding closing totalAfter
   add-closing = ap (totalAfter (add B e)) add-count ∙ ap (λ x. x .total) add-new
 
-  pub add-recorded : recorded (add B e) ≡ recorded B +ℤ e .source
-  unfolding recorded
-  add-recorded =
-      ap (λ k. sumTo ℤ-adds k (λ i. entryAt (add B e) i .source)) add-count
-      ∙ sumTo-next ℤ-adds n (λ i. entryAt (add B e) i .source)
-      ∙ ap₂ _+ℤ_
-      (sumTo-ext ℤ-adds n (λ i. entryAt (add B e) i .source) (λ i. entryAt B i .source) (λ i l. ap (λ x. x .source) (add-other i (λ s. omega arith))))
-      (ap (λ x. x .source) add-new)
-
-  -- a record that follows keeps the chain
+  -- a record that follows keeps the book well formed
   pub add-formed :
       WellFormed B → n < maxEntries → e .total < 2 ^ 32 → e .outcome ≤ 2 → negsuc 2147483647 ≤ℤ e .source → e .source ≤ℤ pos 2147483647
       → pos (e .total) ≡ pos (closing B) +ℤ e .source → WellFormed (add B e)

@@ -1,22 +1,20 @@
 -- Bytes pass the checks exactly if they are those of a book whose totals follow, and what is read off them is that book. Assumes nothing.
 use mathlib.Core.Path.{_≡_, refl, sym, _∙_, ap, ap₂, subst}
-use mathlib.Core.Logic.{_↔_}
 use mathlib.Core.Bool.{Bool, true, false, cond}
 use mathlib.Core.List.{List, [], _∷_}
-use Prim.Native.Nat.{ℕ, zero, suc, _+_, _*_, _-_, _/_, _%_, _^_, _≤_, _<_, min}
+use Prim.Native.Nat.{ℕ, zero, suc, _+_, _*_, _-_, _/_, _%_, _^_, _≤_, _<_}
 use native.Mathlib.Omega.{arith}
-use native.Mathlib.Decide.{ℕ-discrete, decLt}
+use native.Mathlib.Decide.{decLt}
 use borrow.Author.Tests.{ne-eqb}
 use lib.Dec.{eqb}
-use lib.IntN.{ℤ, pos, negsuc, _+ℤ_}
-use lib.Signed.{_≤ℤ_}
-use lib.ListN.{length, getD, List·getD-eq-default}
+use lib.IntN.{ℤ, pos, _+ℤ_}
+use lib.ListN.{length}
 use lib.Seq.{ext-getD}
 use Rattle.numbers.specs.declared.Checked.the-variants.{Pass}
 use Rattle.numbers.specs.Lists.{at, listTo}
 use Rattle.numbers.specs.Checks.{Holds}
 use Rattle.numbers.proofs.ListLaws.{length-listTo, getD-listTo}
-use Rattle.blocks.specs.Words.{Bytes, Words, signedWord, wordSigned}
+use Rattle.blocks.specs.Words.{Words, signedWord, wordSigned}
 use Rattle.blocks.specs.Blocks.{blockOf, payloadWord, SoundBlock}
 use Rattle.blocks.proofs.FileLaws.{length-fileBytes, file-word, file-passes}
 use Rattle.blocks.proofs.BlockLaws.{block-decides}

@@ -1,25 +1,19 @@
 -- The book's definitions as code meets them: a source by its word, with no signed number. Assumes nothing.
-use mathlib.Core.Path.{_≡_, refl, sym, _∙_, ap, ap₂, subst}
-use mathlib.Core.Bool.{Bool}
-use Prim.Native.Nat.{ℕ, zero, suc, _+_, _*_, _-_, _/_, _^_, _≤_, _<_}
+use mathlib.Core.Path.{_≡_, refl, sym, _∙_, ap, ap₂}
+use Prim.Native.Nat.{ℕ, _+_, _-_, _^_, _≤_, _<_}
 use native.Mathlib.Omega.{arith}
 use borrow.Author.Tests.{lt-ltb, le-ltb}
 use lib.Dec.{eqb}
-use lib.IntN.{ℤ}
-use lib.ListN.{length}
 use Rattle.numbers.specs.declared.Checked.{Checked}
 use Rattle.numbers.specs.declared.Checked.the-variants.{Pass, Fail}
 use Rattle.numbers.specs.Signed.{over, under}
 use Rattle.numbers.specs.Checks.{both, first}
 use Rattle.numbers.proofs.CheckLaws.{on, stop, both-assoc, both-second}
-use Rattle.blocks.specs.Words.{wordSigned, Bytes}
-use Rattle.blocks.specs.Blocks.{payloadWord, checkSound}
-use Rattle.book_spec.specs.Book.{closing, maxEntries, usedOf, bookOf}
-use Rattle.book_spec.specs.ReadBook.{isNext, checkUsed, checkOutcomes, checkUnused, checkOpens, checkFollows, checkBookBlock, BookFits}
-use Rattle.book_spec.specs.LentBook.{checkClosing, checkFull}
+use Rattle.blocks.specs.Words.{wordSigned}
+use Rattle.blocks.specs.Blocks.{checkSound}
+use Rattle.book_spec.specs.Book.{usedOf}
+use Rattle.book_spec.specs.ReadBook.{isNext, checkUsed, checkOutcomes, checkUnused, checkOpens, checkFollows, checkBookBlock}
 use Rattle.book_spec.proofs.ReadLaws.{used-decides}
-use Rattle.book_spec.proofs.MeansLaws.{read-count, read-closing}
-use Rattle.book_spec.proofs.LentLaws.{closing-decides, full-decides}
 use mathlib.Core.List.{List, [], _∷_}
 
 -- the parts of the number that a word stands for
@@ -64,28 +58,3 @@ module _ (file : List ℕ) (k b : ℕ) {h : Checked} (e : h ≡ both (checkSound
   head-goes f g =
       on (sym e ∙ f) g
       ∙ both-assoc (checkSound file b) (checkUsed file k b) (first (checkOutcomes file b ∷ checkUnused file b ∷ checkOpens file b ∷ checkFollows file b ∷ []))
-
--- ---- 12 at the last block and 21, by the number of records in it and its last total
-
-module _ (file : List ℕ) (y : Bytes file) (f : BookFits (length file) file) (total used t : ℕ) (u : used ≡ usedOf file (length file / 512)) (e : t ≡ payloadWord file (length file / 512) (3 * used)) where
-  abbrev k : ℕ
-  k = length file / 512
-
-  closing-is : closing (bookOf file) ≡ t
-  closing-is = read-closing file y f ∙ ap (λ x. payloadWord file k (3 * x)) (sym u) ∙ sym e
-
-  pub used-small : used ≤ 41
-  used-small = subst (λ x. x ≤ 41) (sym u) (f .blocks k (f .some) (omega arith) .counted .most)
-
-  pub not-closed : (t ≡ total → ⊥) → Fail 12 k ≡ first (checkClosing (bookOf file) total k ∷ checkFull (bookOf file) ∷ [])
-  not-closed h = stop _ (closing-decides (bookOf file) total k .fails 12 k .1 (refl, (refl, λ q. h (sym closing-is ∙ q))))
-
-  pub with-room : t ≡ total → 41 * (k - 1) + used < maxEntries → Pass ≡ first (checkClosing (bookOf file) total k ∷ checkFull (bookOf file) ∷ [])
-  with-room h l =
-      on (closing-decides (bookOf file) total k .passes .1 (closing-is ∙ h))
-      (on (full-decides (bookOf file) .passes .1 (omega (arith, read-count file y f))) refl)
-
-  pub without-room : t ≡ total → maxEntries ≤ 41 * (k - 1) + used → Fail 21 0 ≡ first (checkClosing (bookOf file) total k ∷ checkFull (bookOf file) ∷ [])
-  without-room h l =
-      on (closing-decides (bookOf file) total k .passes .1 (closing-is ∙ h))
-      (stop Pass (full-decides (bookOf file) .fails 21 0 .1 (refl, (refl, λ q. omega (arith, read-count file y f)))))

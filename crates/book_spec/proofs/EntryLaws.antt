@@ -1,22 +1,22 @@
 -- Adding a record as code does it: the words of the block that is written, from the last block's or from none, and the block put in its
 -- place. Assumes nothing.
-use mathlib.Core.Path.{_≡_, refl, sym, _∙_, ap, ap₂, subst}
-use mathlib.Core.List.{List, [], _∷_}
-use Prim.Native.Nat.{ℕ, zero, suc, _+_, _*_, _-_, _/_, _%_, _^_, _≤_, _<_, min}
+use mathlib.Core.Path.{_≡_, refl, sym, _∙_, ap, ap₂}
+use mathlib.Core.List.{List, []}
+use Prim.Native.Nat.{ℕ, suc, _+_, _*_, _-_, _/_, _%_, _^_, _≤_, _<_, min}
 use native.Mathlib.Omega.{arith}
 use native.Mathlib.Decide.{ℕ-discrete, decLt}
-use lib.ListN.{length, getD, take, drop, set, replicate, length-set, length-replicate, getD-replicate}
-use lib.Seq.{ext-getD, getD-set-same, getD-set-other, length-take-le}
+use lib.ListN.{length, take, drop, set, replicate, length-set, getD-replicate}
+use lib.Seq.{ext-getD, getD-set-other, length-take-le}
 use Rattle.numbers.specs.Lists.{at, listTo, written}
 use Rattle.numbers.proofs.ListLaws.{listTo-ext}
 use Rattle.numbers.proofs.PartLaws.{take-min, drop-take}
 use Rattle.blocks.specs.Words.{wordAt, wordSigned}
-use Rattle.blocks.specs.Blocks.{blockBytes, payloadOf, payloadWord}
+use Rattle.blocks.specs.Blocks.{blockBytes, payloadOf, payloadWord, fileBytes}
 use Rattle.blocks.proofs.BlockLaws.{hasBlock-in}
 use Rattle.blocks.proofs.WordLaws.{word-signed-back}
-use Rattle.book_spec.specs.Book.{Entry, entry, Book, count, closing, add, bookBlocks, usedIn, bookWord, bookWords, bookBytes, usedOf}
+use Rattle.book_spec.specs.Book.{Entry, entry, Book, count, closing, add, bookBlocks, usedIn, bookWord, bookWords, bookBytes, usedOf, totalAfter, book}
 use Rattle.book_spec.specs.LentBook.{HasBook}
-use Rattle.book_spec.proofs.WordLaws.{words-at, word-used, length-bookWords}
+use Rattle.book_spec.proofs.WordLaws.{words-at, word-used, length-bookWords, word-after}
 use Rattle.book_spec.proofs.BackLaws.{few-blocks, word}
 use Rattle.book_spec.proofs.AddLaws.{newBlock, add-written, entered, new-words, fresh-word, fresh-opens}
 
@@ -30,6 +30,30 @@ front-word buffer l b j z h m =
     ap (λ p. wordAt p (4 * j))
     (rw (hasBlock-in (take l buffer) b z (omega arith), hasBlock-in buffer b z (omega arith))
     (ap (take 500) (drop-take from l buffer) ∙ take-min 500 (l - from) (drop from buffer) ∙ ap (λ x. take x (drop from buffer)) e))
+
+-- a block that no record stands in yet opens with the closing total, and its other words are 0
+pub fresh-words : (B : Book) → 41 * (count B / 41) ≡ count B → bookWords B (suc (count B / 41)) ≡ set (replicate 125 0) 0 (closing B)
+fresh-words B full =
+    ext-getD 0 (bookWords B (suc n)) (set (replicate 125 0) 0 (closing B))
+    (length-bookWords B (suc n) ∙ sym (length-set (replicate 125 0) 0 (closing B)))
+    (λ j l.
+    let m : j < 125 = omega (arith, length-bookWords B (suc n)) in
+    let e : suc n - 1 ≡ n = omega arith in
+    words-at B (suc n) j m ∙ ap (λ x. bookWord B x j) e ∙ each j m (ℕ-discrete j 0))
+  where
+    n : ℕ
+    n = count B / 41
+
+    each : (j : ℕ) → j < 125 → Dec (j ≡ 0) → bookWord B n j ≡ at (set (replicate 125 0) 0 (closing B)) j
+    each j m (yes e) = rw e (fresh-opens B full)
+    each j m (no e) =
+        fresh-word B j full (omega arith) m
+        ∙ sym (getD-set-other (replicate 125 0) 0 j (closing B) 0 e ∙ getD-replicate 125 j 0 0 m)
+
+-- a book without records
+pub empty-bytes : (total : ℕ) → bookBytes (book total []) ≡ blockBytes 1 (set (replicate 125 0) 0 total)
+unfolding bookBytes fileBytes closing totalAfter
+empty-bytes total = ap (blockBytes 1) (fresh-words (book total []) refl)
 
 module _ (buffer : List ℕ) (k : ℕ) (B : Book) (h : HasBook buffer (512 * k) B) where
   abbrev n : ℕ
@@ -77,20 +101,21 @@ module _ (buffer : List ℕ) (k : ℕ) (B : Book) (h : HasBook buffer (512 * k) 
   next-room u f = omega (arith, next-place u, h .room)
 
   pub next-words : (usedOf buffer k < 41 → ⊥) → bookWords B (suc (n / 41)) ≡ set (replicate 125 0) 0 (closing B)
-  next-words u =
-      let full : 41 * (n / 41) ≡ n = omega (arith, next-place u) in
-      ext-getD 0 (bookWords B (suc (n / 41))) (set (replicate 125 0) 0 (closing B))
-      (length-bookWords B (suc (n / 41)) ∙ sym (length-set (replicate 125 0) 0 (closing B)))
-      (λ j l.
-      let m : j < 125 = omega (arith, length-bookWords B (suc (n / 41))) in
-      let e : suc (n / 41) - 1 ≡ n / 41 = omega arith in
-      words-at B (suc (n / 41)) j m ∙ ap (λ x. bookWord B x j) e ∙ each full j m (ℕ-discrete j 0))
-    where
-      each : 41 * (n / 41) ≡ n → (j : ℕ) → j < 125 → Dec (j ≡ 0) → bookWord B (n / 41) j ≡ at (set (replicate 125 0) 0 (closing B)) j
-      each full j m (yes e) = rw e (fresh-opens B full)
-      each full j m (no e) =
-          fresh-word B j full (omega arith) m
-          ∙ sym (getD-set-other (replicate 125 0) 0 j (closing B) 0 e ∙ getD-replicate 125 j 0 0 m)
+  next-words u = fresh-words B (omega (arith, next-place u))
+
+  -- that total is the last word of the full block's records
+  pub next-opens : (usedOf buffer k < 41 → ⊥) → payloadWord buffer k 123 ≡ closing B
+  unfolding closing
+  next-opens u =
+      let e : 41 * (k - 1) + 41 ≡ n = omega (arith, next-place u, held-room) in
+      held-word 123 (omega arith) ∙ word-after B (k - 1) 41 (omega arith) ∙ ap (totalAfter B) e
+
+  -- how many blocks the book then has
+  pub last-blocks : usedOf buffer k < 41 → k ≡ bookBlocks (suc n)
+  last-blocks u = omega (arith, last-place u, held-room)
+
+  pub next-blocks : (usedOf buffer k < 41 → ⊥) → k + 1 ≡ bookBlocks (suc n)
+  next-blocks u = omega (arith, next-place u)
 
   -- the block that is written is the book with one record more
   pub entry-written : (e : Entry) (W : List ℕ) (b : ℕ) → W ≡ bookWords B (suc (n / 41)) → b ≡ suc (n / 41) → written buffer (512 * (b - 1)) (blockBytes b (entered B e W)) ≡ written buffer 0 (bookBytes (add B e))

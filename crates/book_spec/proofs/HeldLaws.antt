@@ -1,20 +1,16 @@
 -- A buffer with a book at its front: one that was written there, and one that passed its checks. Assumes nothing.
-use mathlib.Core.Path.{_≡_, refl, sym, _∙_, ap, ap₂, subst}
-use mathlib.Core.Logic.{_↔_}
-use mathlib.Core.List.{List, [], _∷_, _++_}
-use Prim.Native.Nat.{ℕ, zero, suc, _+_, _*_, _-_, _/_, _%_, _^_, _≤_, _<_}
+use mathlib.Core.Path.{_≡_, refl, sym, _∙_, ap, subst}
+use mathlib.Core.List.{List}
+use Prim.Native.Nat.{ℕ, _+_, _*_, _-_, _/_, _≤_}
 use native.Mathlib.Omega.{arith}
-use lib.IntN.{ℤ, pos}
-use lib.ListN.{length, getD, take, drop, length-take}
-use lib.Seq.{getD-drop, take-at, length-take-le}
-use Rattle.numbers.specs.declared.Checked.the-variants.{Pass, Fail}
-use Rattle.numbers.specs.Lists.{at, written}
+use lib.ListN.{length, take, drop}
+use lib.Seq.{take-at, length-take-le}
+use Rattle.numbers.specs.Lists.{written}
 use Rattle.numbers.proofs.PartLaws.{length-kept}
 use Rattle.blocks.specs.Words.{Bytes}
 use Rattle.blocks.proofs.WordLaws.{bytes-append, bytes-part, bytes-drop}
 use Rattle.blocks.proofs.FileLaws.{fileBytes-bytes}
-use Rattle.book_spec.specs.declared.BookStarted.{BookStarted}
-use Rattle.book_spec.specs.Book.{Book, book, count, WellFormed, bookBlocks, bookWords, bookBytes, bookOf, maxBytes}
+use Rattle.book_spec.specs.Book.{Book, count, WellFormed, bookBlocks, bookWords, bookBytes, bookOf, maxBytes}
 use Rattle.book_spec.specs.ReadBook.{BookFits}
 use Rattle.book_spec.specs.LentBook.{HasBook}
 use Rattle.book_spec.proofs.BackLaws.{few-blocks, length-bookBytes, book-back}

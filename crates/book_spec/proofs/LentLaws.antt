@@ -1,27 +1,27 @@
 -- A book at the front of a lent buffer: what a step's checks of it mean, that they refuse with 14, 15, 16, 12 and 21 alone, what holds of a book
 -- with one record more, and when a book is full. Assumes nothing.
 use mathlib.Core.Path.{_≡_, refl, sym, _∙_, ap, ap₂, subst}
-use mathlib.Core.Logic.{_⊎_, inl, inr, ⊎-elim, _↔_}
-use mathlib.Core.List.{List, [], _∷_, _++_}
-use Prim.Native.Nat.{ℕ, zero, suc, _+_, _*_, _-_, _/_, _^_, _≤_, _<_}
+use mathlib.Core.Logic.{_⊎_, ⊎-elim, _↔_}
+use mathlib.Core.List.{List, [], _∷_}
+use Prim.Native.Nat.{ℕ, suc, _+_, _*_, _-_, _/_, _^_, _≤_, _<_}
 use native.Mathlib.Omega.{arith}
 use native.Mathlib.Decide.{decLt}
-use lib.IntN.{ℤ, pos, negsuc, _+ℤ_}
+use lib.IntN.{pos, negsuc, _+ℤ_}
 use lib.Signed.{_≤ℤ_}
 use lib.ListN.{length, take, drop}
 use lib.Seq.{drop-at}
 use Rattle.numbers.specs.declared.Checked.{Checked}
 use Rattle.numbers.specs.declared.Checked.the-variants.{Pass, Fail}
 use Rattle.numbers.specs.Lists.{written}
-use Rattle.numbers.specs.Checks.{first, both, ruleFor, rule, Decides, DecidesAll, OneOf, numbersOf}
+use Rattle.numbers.specs.Checks.{first, both, ruleFor, rule, Decides, DecidesAll, OneOf, numbersOf, Broken, RefuseWith}
 use Rattle.numbers.proofs.TestLaws.{eq-means, lt-means}
-use Rattle.numbers.proofs.CheckLaws.{on, both-pass, both-first, both-second, decides-for, decides-unless, decides-then, decides-append, decides-none}
-use Rattle.numbers.proofs.ChainLaws.{one-append, numbers-append}
+use Rattle.numbers.proofs.CheckLaws.{on, both-pass, both-first, both-second, decides-for, decides-unless, decides-then, decides-append, decides-none, stop}
+use Rattle.numbers.proofs.ChainLaws.{one-append, numbers-append, are-of, no-number, broken-later, refuse-append, refuse-with}
 use Rattle.blocks.specs.Words.{Bytes}
 use Rattle.book_spec.specs.Book.{Entry, Book, count, closing, maxEntries, maxBytes, WellFormed, bookBlocks, bookBytes, usedOf, bookOf}
 use Rattle.book_spec.specs.ReadBook.{bookVerdict, bookRules, BookFits}
-use Rattle.book_spec.specs.LentBook.{heldIn, HasBook, checkClosing, checkFull, lentChecks, lentRules, LentFits, grown, grownBuffer, grownLength}
-use Rattle.book_spec.proofs.ReadLaws.{book-decides, book-accepts, book-numbers}
+use Rattle.book_spec.specs.LentBook.{heldIn, HasBook, checkClosing, checkFull, lentChecks, lentRules, LentFits, grown, grownBuffer, grownLength, LentFull}
+use Rattle.book_spec.proofs.ReadLaws.{book-decides, book-accepts, book-numbers, book-refuse-with}
 use Rattle.book_spec.proofs.BackLaws.{length-bookBytes, book-passes}
 use Rattle.book_spec.proofs.MeansLaws.{read-count}
 use Rattle.book_spec.proofs.AddLaws.{add-count, add-formed}
@@ -70,14 +70,42 @@ module _ (buffer : List ℕ) (l total : ℕ) where
 
   -- they refuse with the papers' numbers and no others
   pub lent-numbers : (n : ℕ) → OneOf (numbersOf (lentRules buffer l total)) n → OneOf (14 ∷ 15 ∷ 16 ∷ 12 ∷ 21 ∷ []) n
-  lent-numbers n o = ⊎-elim (λ a. first-four (book-numbers l file n a)) last-two (one-append (numbersOf (bookRules l file)) (12 ∷ 21 ∷ []) n .0 (subst (λ ns. OneOf ns n) (numbers-append (bookRules l file) _) o))
-    where
-      first-four : OneOf (14 ∷ 15 ∷ 16 ∷ 12 ∷ []) n → OneOf (14 ∷ 15 ∷ 16 ∷ 12 ∷ 21 ∷ []) n
-      first-four a = unfold OneOf in
-          (⊎-elim (λ e. inl e) (λ r. ⊎-elim (λ e. inr (inl e)) (λ q. ⊎-elim (λ e. inr (inr (inl e))) (λ t. ⊎-elim (λ e. inr (inr (inr (inl e)))) (λ z. absurd z) t) q) r) a)
+  lent-numbers n o =
+      ⊎-elim (λ a. are-of _ (14 ∷ 15 ∷ 16 ∷ 12 ∷ []) refl n (book-numbers l file n a)) (λ a. are-of _ (12 ∷ 21 ∷ []) refl n a)
+      (one-append (numbersOf (bookRules l file)) (12 ∷ 21 ∷ []) n .0 (subst (λ ns. OneOf ns n) (numbers-append (bookRules l file) _) o))
 
-      last-two : OneOf (12 ∷ 21 ∷ []) n → OneOf (14 ∷ 15 ∷ 16 ∷ 12 ∷ 21 ∷ []) n
-      last-two a = unfold OneOf in (⊎-elim (λ e. inr (inr (inr (inl e)))) (λ r. ⊎-elim (λ e. inr (inr (inr (inr (inl e))))) (λ z. absurd z) r) a)
+  pub lent-refuse-with : 512 ≤ l → RefuseWith (lentRules buffer l total) (14 ∷ 15 ∷ 16 ∷ 12 ∷ 21 ∷ [])
+  lent-refuse-with h =
+      let last = ruleFor 12 (l / 512) (closing B ≡ total) ∷ rule 21 (count B < maxEntries) ∷ [] in
+      refuse-append (bookRules l file) last (14 ∷ 15 ∷ 16 ∷ 12 ∷ []) (12 ∷ 21 ∷ []) (14 ∷ 15 ∷ 16 ∷ 12 ∷ 21 ∷ []) (book-refuse-with l file h)
+      (refuse-with last (12 ∷ 21 ∷ []) refl refl) refl refl
+
+  -- 21 comes last, and only where every other check has passed
+  pub lent-full : (place : ℕ) → (first (lentChecks buffer l total) ≡ Fail 21 place) ↔ ((place ≡ 0) × LentFull buffer l total)
+  lent-full place = (
+    λ e.
+        let h = broken-later (bookRules l file) _ 21 place (λ o. no-number _ 21 refl (book-numbers l file 21 o)) (lent-decides .fails 21 place .0 e) in
+        last-broken (book-accepts l file .0 (book-decides l file .passes .1 (h .0))) (h .1),
+    λ h.
+        sym
+        (on (book-accepts l file .1 (h .1 .fits))
+        (on (closing-decides B total (l / 512) .passes .1 (h .1 .closes))
+        (stop Pass (full-decides B .fails 21 place .1 (refl, (h .0, λ q. omega (arith, h .1 .full))))))),
+  )
+    where
+      last-broken :
+          BookFits l file → Broken (ruleFor 12 (l / 512) (closing B ≡ total) ∷ rule 21 (count B < maxEntries) ∷ []) 21 place
+          → (place ≡ 0) × LentFull buffer l total
+      last-broken f g = unfold Broken in
+          (⊎-elim (λ q. absurd (omega (arith, q .0)))
+          (λ q. ⊎-elim (λ r. (r .1 .0, record { fits = f; closes = q .0; full = not-less (r .1 .1) })) (λ r. absurd (r .1)) (q .1)) g)
+        where
+          not-less : (count B < maxEntries → ⊥) → maxEntries ≤ count B
+          not-less h = go (decLt (count B) maxEntries)
+            where
+              go : Dec (count B < maxEntries) → maxEntries ≤ count B
+              go (yes k) = absurd (h k)
+              go (no k) = omega arith
 
 -- ---- a book that is there passes
 

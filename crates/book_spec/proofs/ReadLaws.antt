@@ -1,23 +1,22 @@
 -- What reading's verdict means. Assumes nothing.
-use mathlib.Core.Path.{_≡_, refl, sym, _∙_, ap, subst}
+use mathlib.Core.Path.{_≡_, refl, sym, ap, subst}
 use mathlib.Core.Logic.{_⊎_, inl, inr, ⊎-elim, _↔_}
-use mathlib.Core.Bool.{Bool, true, false, cond}
+use mathlib.Core.Bool.{true}
 use mathlib.Core.List.{List, [], _∷_}
-use Prim.Native.Nat.{ℕ, zero, suc, _+_, _*_, _-_, _/_, _%_, _≤_, _<_}
+use Prim.Native.Nat.{ℕ, zero, suc, _+_, _*_, _-_, _/_, _≤_, _<_}
 use native.Mathlib.Omega.{arith}
 use native.Mathlib.Decide.{decLt}
-use borrow.Author.Tests.{lt-ltb, le-ltb, le-leb, lt-leb, eqb-true, eq-eqb, ne-eqb}
-use lib.Dec.{leb, ltb, eqb}
+use borrow.Author.Tests.{lt-ltb, le-ltb, le-leb, lt-leb, eqb-true, eq-eqb}
+use lib.Dec.{leb, eqb}
 use lib.IntN.{ℤ, pos, _+ℤ_}
 use lib.ListN.{length}
-use Rattle.numbers.specs.declared.Checked.{Checked}
 use Rattle.numbers.specs.declared.Checked.the-variants.{Pass, Fail}
 use Rattle.numbers.specs.Signed.{over, under}
-use Rattle.numbers.specs.Checks.{Decides, rule, ruleFor, DecidesAll, Holds, Broken, OneOf, numbersOf}
+use Rattle.numbers.specs.Checks.{Decides, ruleFor, DecidesAll, Holds, Broken, OneOf, numbersOf, RefuseWith, rulesFrom}
 use Rattle.numbers.proofs.TestLaws.{injective, and-means, eq-means, le-means}
 use Rattle.numbers.proofs.SignedLaws.{add-parts, parts-eq}
 use Rattle.numbers.proofs.CheckLaws.{on, both-first, both-second, every-means, every-from, decides-for, decides-none, decides-then, decides-each, each-passes, answered-accepted}
-use Rattle.numbers.proofs.ChainLaws.{each-number}
+use Rattle.numbers.proofs.ChainLaws.{each-number, are-of, one-append, numbers-append}
 use Rattle.blocks.specs.Blocks.{payloadWord}
 use Rattle.blocks.specs.Words.{wordSigned}
 use Rattle.blocks.specs.Files.{checkFileLength}
@@ -27,7 +26,7 @@ use Rattle.book_spec.specs.declared.BookReport.{BookReport}
 use Rattle.book_spec.specs.declared.BookRead.{BookRead}
 use Rattle.book_spec.specs.declared.BookRead.the-variants.{Report, Refused}
 use Rattle.book_spec.specs.Book.{usedOf, bookOf, reportOf, maxBytes}
-use Rattle.book_spec.specs.ReadBook.{leastUsed, checkUsed, checkOutcomes, checkUnused, checkOpens, isNext, checkFollows, checkBookBlock, bookVerdict, Counted, Outcomes, UnusedZero, Opens, Follows, bookBlockRules, bookRules, BlockFits, BookFits, bookTells, bookAnswer, BookReadContract}
+use Rattle.book_spec.specs.ReadBook.{leastUsed, checkUsed, checkOutcomes, checkUnused, checkOpens, isNext, checkFollows, checkBookBlock, bookVerdict, Counted, Outcomes, UnusedZero, Opens, Follows, bookBlockRules, bookRules, BlockFits, BookFits, bookTells, bookAnswer, BookReadContract, lengthRule}
 
 -- ---- each test
 
@@ -168,11 +167,27 @@ module _ (l : ℕ) (file : List ℕ) where
   pub book-refuses : (number place : ℕ) → (bookVerdict l file ≡ Fail number place) ↔ Broken (bookRules l file) number place
   book-refuses = book-decides .fails
 
-  -- it refuses with the papers' numbers and no others
+  -- it refuses with the papers' numbers and no others; with 14 alone where there is no block
   pub book-numbers : (n : ℕ) → OneOf (numbersOf (bookRules l file)) n → OneOf (14 ∷ 15 ∷ 16 ∷ 12 ∷ []) n
   unfolding OneOf
   book-numbers n o =
       ⊎-elim (λ e. inl e) (λ e. each-number (bookBlockRules file (l / 512)) (14 ∷ 15 ∷ 16 ∷ 12 ∷ []) n (λ b. refl) 1 (l / 512) e) o
+
+  each-occurs :
+      (k : ℕ) → 0 < k → (n : ℕ) → OneOf (14 ∷ 15 ∷ 16 ∷ 12 ∷ []) n → OneOf (numbersOf (lengthRule l ∷ rulesFrom (bookBlockRules file (l / 512)) 1 k)) n
+  unfolding rulesFrom OneOf
+  each-occurs zero h n o = absurd (omega arith)
+  each-occurs (suc k) h n o =
+      ⊎-elim (λ e. inl e)
+      (λ r.
+      inr
+      (subst (λ ns. OneOf ns n) (sym (numbers-append (bookBlockRules file (l / 512) 1) (rulesFrom (bookBlockRules file (l / 512)) 2 k)))
+      (one-append (numbersOf (bookBlockRules file (l / 512) 1)) (numbersOf (rulesFrom (bookBlockRules file (l / 512)) 2 k)) n .1
+      (inl (are-of (15 ∷ 16 ∷ 16 ∷ 16 ∷ 12 ∷ 12 ∷ []) (15 ∷ 16 ∷ 12 ∷ []) refl n r)))))
+      o
+
+  pub book-refuse-with : 512 ≤ l → RefuseWith (bookRules l file) (14 ∷ 15 ∷ 16 ∷ 12 ∷ [])
+  book-refuse-with h n = (book-numbers n, each-occurs (l / 512) (omega arith) n)
 
 -- ---- the answer, and from the contract alone
 

@@ -1,14 +1,13 @@
 -- A book's account: its closing total is its opening total plus the recorded sources, and its report says so. Assumes nothing.
-use mathlib.Core.Path.{_≡_, refl, sym, _∙_, ap, ap₂, subst}
-use mathlib.Core.List.{List, [], _∷_}
+use mathlib.Core.Path.{_≡_, refl, sym, _∙_, ap, subst}
+use mathlib.Core.List.{List}
 use Prim.Native.Nat.{ℕ, zero, suc, _+_, _*_, _/_, _%_, _≤_, _<_}
 use native.Mathlib.Omega.{arith}
-use lib.IntN.{ℤ, pos, negsuc, _+ℤ_, +ℤ-idr, +ℤ-assoc}
-use lib.Signed.{_≤ℤ_}
+use lib.IntN.{ℤ, pos, _+ℤ_, +ℤ-idr, +ℤ-assoc}
 use lib.ListN.{length}
 use Rattle.numbers.specs.Sums.{ℕ-adds, ℤ-adds, sumTo}
 use Rattle.numbers.specs.Signed.{over, under}
-use Rattle.numbers.proofs.SignedLaws.{add-parts, le-parts}
+use Rattle.numbers.proofs.SignedLaws.{add-parts}
 use Rattle.numbers.proofs.SumLaws.{sumTo-ext, sumTo-parts}
 use Rattle.blocks.specs.Words.{Bytes, wordSigned}
 use Rattle.blocks.specs.Blocks.{payloadWord}
@@ -41,17 +40,6 @@ module _ (B : Book) (g : WellFormed B) where
   unfolding reportOf recorded
   report-balances =
       omega (arith, ap over closing-recorded, ap under closing-recorded, add-parts (pos (B .opening)) (recorded B), sumTo-parts (count B) source)
-
-  -- sums that a loop makes fit 64 bits
-  pub inflow-small : (i : ℕ) → i ≤ count B → sumTo ℕ-adds i (λ j. over (source j)) ≤ 2147483647 * i
-  unfolding sumTo
-  inflow-small zero l = omega arith
-  inflow-small (suc i) l = omega (arith, inflow-small i (omega arith), le-parts (g .most i (omega arith)))
-
-  pub outflow-small : (i : ℕ) → i ≤ count B → sumTo ℕ-adds i (λ j. under (source j)) ≤ 2147483648 * i
-  unfolding sumTo
-  outflow-small zero l = omega arith
-  outflow-small (suc i) l = omega (arith, outflow-small i (omega arith), le-parts (g .least i (omega arith)))
 
 -- a report that was given is that of a book whose totals follow, and balances
 pub reported : {file : List ℕ} {r : BookReport} → BookReadContract file (Report r) → (r ≡ reportOf (bookOf file)) × (r .closing + r .outflow ≡ r .opening + r .inflow)

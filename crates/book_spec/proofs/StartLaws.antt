@@ -1,16 +1,15 @@
 -- Starting a book: a book without records, what the verdict means, that an answer tells it and nothing else, and what the contract alone says.
 -- Assumes nothing.
-use mathlib.Core.Path.{_≡_, refl, sym, _∙_, ap, ap₂, subst}
+use mathlib.Core.Path.{_≡_, refl, sym, _∙_, ap, subst}
 use mathlib.Core.Logic.{_↔_}
-use mathlib.Core.List.{List, [], _∷_, _++_}
-use Prim.Native.Nat.{ℕ, zero, suc, _+_, _*_, _-_, _/_, _%_, _^_, _≤_, _<_}
+use mathlib.Core.List.{List, [], _∷_}
+use Prim.Native.Nat.{ℕ, _-_, _^_, _<_}
 use native.Mathlib.Omega.{arith}
-use lib.IntN.{ℤ, pos}
-use lib.ListN.{length, getD, take, drop, length-take}
-use lib.Seq.{getD-drop, take-at, length-take-le}
+use lib.IntN.{pos}
+use lib.ListN.{length}
 use Rattle.numbers.specs.declared.Checked.the-variants.{Pass, Fail}
-use Rattle.numbers.specs.Lists.{at, written}
-use Rattle.numbers.specs.Checks.{accepted, refused, after, DecidesAll, RefuseWith, Holds, Broken}
+use Rattle.numbers.specs.Lists.{written}
+use Rattle.numbers.specs.Checks.{accepted, after, DecidesAll, RefuseWith, Holds, Broken}
 use Rattle.numbers.proofs.SignedLaws.{le-parts, parts-le}
 use Rattle.numbers.proofs.CheckLaws.{answered-accepted, decides-then, decides-none, long-decides, total-decides}
 use Rattle.numbers.proofs.ChainLaws.{refuse-with}

@@ -1,16 +1,11 @@
 -- The words of a book's blocks, by what each holds. Assumes nothing.
-use mathlib.Core.Path.{_≡_, refl, sym, _∙_, ap, ap₂, subst}
-use mathlib.Core.Logic.{_↔_}
-use mathlib.Core.List.{List, [], _∷_, _++_}
-use Prim.Native.Nat.{ℕ, zero, suc, _+_, _*_, _-_, _/_, _%_, _^_, _≤_, _<_, min}
+use mathlib.Core.Path.{_≡_, refl}
+use Prim.Native.Nat.{ℕ, zero, suc, _+_, _*_, _-_, _/_, _%_, _≤_, _<_}
 use native.Mathlib.Omega.{arith}
 use native.Mathlib.Decide.{ℕ-discrete, decLt}
-use borrow.Author.Tests.{eq-eqb, ne-eqb, lt-ltb, le-ltb}
-use lib.IntN.{ℤ, pos, negsuc}
-use lib.ListN.{length, getD, take, drop, List·getD-eq-default}
-use lib.Seq.{ext-getD, take-add, take-all}
+use borrow.Author.Tests.{ne-eqb}
+use lib.ListN.{length, List·getD-eq-default}
 use Rattle.numbers.specs.Lists.{at}
-use Rattle.numbers.proofs.TestLaws.{holds}
 use Rattle.numbers.proofs.ListLaws.{length-listTo, getD-listTo}
 use Rattle.blocks.specs.Words.{signedWord}
 use Rattle.book_spec.specs.Book.{unused, Book, count, entryAt, totalAfter, usedIn, bookWord, bookWords}

@@ -50,6 +50,12 @@ pub record LentFits (buffer : List ℕ) (l total : ℕ) : Type 0 where
   pub closes : closing (heldIn buffer l) ≡ total
   pub not-full : count (heldIn buffer l) < maxEntries
 
+-- every check passes but the last, 21
+pub record LentFull (buffer : List ℕ) (l total : ℕ) : Type 0 where
+  pub fits : BookFits l (take l buffer)
+  pub closes : closing (heldIn buffer l) ≡ total
+  pub full : maxEntries ≤ count (heldIn buffer l)
+
 -- ---- one record more
 
 -- the book, the buffer that has it, and its length in bytes

@@ -96,7 +96,7 @@ abbrev pub areOf : List ℕ → List ℕ → Bool
 areOf ns [] = true
 areOf ns (m ∷ ms) = isOne ns m && areOf ns ms
 
-is-one : (ks : List ℕ) (n : ℕ) → isOne ks n ≡ true → OneOf ks n
+pub is-one : (ks : List ℕ) (n : ℕ) → isOne ks n ≡ true → OneOf ks n
 unfolding OneOf
 is-one [] n e = absurd (clash e refl)
 is-one (k ∷ ks) n e = go (eqb n k) refl e (is-one ks n)
@@ -127,7 +127,7 @@ pub broken-first : (r : Rule) (rs : List Rule) (k : ℕ) → isOne (numbersOf rs
 unfolding Broken
 broken-first r rs k f n p e h = ⊎-elim (λ x. x .1) (λ y. absurd (not-broken rs k f n p e (y .1))) h
 
-are-of : (ns ms : List ℕ) → areOf ns ms ≡ true → (n : ℕ) → OneOf ms n → OneOf ns n
+pub are-of : (ns ms : List ℕ) → areOf ns ms ≡ true → (n : ℕ) → OneOf ms n → OneOf ns n
 unfolding OneOf
 are-of ns [] e n h = absurd h
 are-of ns (m ∷ ms) e n h =
