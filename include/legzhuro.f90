@@ -5,9 +5,9 @@
 ! leaves every list as it was, so the lists that a call writes are intent(inout).
 !
 ! Fortran has no unsigned integers: an unsigned value of 8, 32 or 64 bits is passed as the signed integer with the same bits.
-! A number from 0 to 2147483647 is itself, and so is every number that legzhuro_open and legzhuro_step write, and that
-! legzhuro_read_answer reads in a file of legzhuro_reconstruct. Below 0 an integer(c_int32_t) i stands for i + 2**32; a byte b of a
-! file is iand(int(b), 255).
+! A number from 0 to 2147483647 is itself, and so is every number that legzhuro_open, legzhuro_step and the calls on books write,
+! and that legzhuro_read_answer reads in a file of legzhuro_reconstruct. Below 0 an integer(c_int32_t) i stands for i + 2**32; a
+! byte b of a file is iand(int(b), 255).
 module legzhuro
     use, intrinsic :: iso_c_binding, only: c_double, c_float, c_int8_t, c_int32_t, c_int64_t, c_size_t
     implicit none
@@ -22,12 +22,13 @@ module legzhuro
     integer, parameter, public :: legzhuro_members = 8 ! of a family
     integer, parameter, public :: legzhuro_family = 21 ! entries of the list that a family stands in
     integer, parameter, public :: legzhuro_nobody = 8 ! in the place of a member: nobody waits
+    integer, parameter, public :: legzhuro_book = 32768 ! bytes of a book's buffer, which are those of a full book
     integer, parameter, public :: legzhuro_max_field_file = 18432 ! bytes
     integer, parameter, public :: legzhuro_max_answer_file = 3072 ! bytes
 
     public :: legzhuro_reconstruct, legzhuro_write_field, legzhuro_read_answer
     public :: legzhuro_split, legzhuro_open, legzhuro_step, legzhuro_import, legzhuro_export
-    public :: legzhuro_export_single, legzhuro_bounds
+    public :: legzhuro_export_single, legzhuro_bounds, legzhuro_book_start, legzhuro_book_report
     public :: legzhuro_family_start, legzhuro_family_open, legzhuro_family_step
     public :: legzhuro_family_register, legzhuro_family_next, legzhuro_family_waiting, legzhuro_family_turn
     public :: legzhuro_number, legzhuro_place, legzhuro_field_file, legzhuro_answer_file
@@ -90,18 +91,42 @@ module legzhuro
             integer(c_int64_t) :: returned
         end function legzhuro_open
 
+        ! Starts a source book from a total: answer(1) is its length in bytes, 512. The buffer has legzhuro_book bytes.
+        function legzhuro_book_start(total, buffer, buffer_len, answer, answer_len) result(returned) &
+            bind(c, name='legzhuro_book_start')
+            import :: c_int8_t, c_int32_t, c_int64_t, c_size_t
+            integer(c_int32_t), value :: total
+            integer(c_size_t), value :: buffer_len, answer_len
+            integer(c_int8_t), intent(inout) :: buffer(buffer_len)
+            integer(c_int64_t), intent(inout) :: answer(answer_len)
+            integer(c_int64_t) :: returned
+        end function legzhuro_book_start
+
+        ! Reports a book: answer(1) is the total it opens with, answer(2) the sum of its sources above 0, answer(3) the size of the
+        ! sum of those below, answer(4) the total it closes with. file_len is the book's own length.
+        function legzhuro_book_report(file, file_len, answer, answer_len) result(returned) bind(c, name='legzhuro_book_report')
+            import :: c_int8_t, c_int64_t, c_size_t
+            integer(c_size_t), value :: file_len, answer_len
+            integer(c_int8_t), intent(in) :: file(file_len)
+            integer(c_int64_t), intent(inout) :: answer(answer_len)
+            integer(c_int64_t) :: returned
+        end function legzhuro_book_report
+
         ! Steps a kept field: answer(1) is the outcome, answer(2) the new total, answer(3) the change, answer(4) the sum shared
-        ! out. The new total is at total_scale, which scale must be.
+        ! out, answer(5) the new length of the book. The new total is at total_scale, which scale must be. The book is the first
+        ! book_length bytes of book.
         function legzhuro_step(total, total_scale, kept, kept_len, source, scale, targets, targets_len, lows, lows_len, highs, &
                                highs_len, safe_lows, safe_lows_len, safe_highs, safe_highs_len, weights, weights_len, parents, &
-                               parents_len, scratch, scratch_len, answer, answer_len) result(returned) bind(c, name='legzhuro_step')
-            import :: c_int32_t, c_int64_t, c_size_t
+                               parents_len, scratch, scratch_len, book, book_room, book_length, answer, answer_len) &
+            result(returned) bind(c, name='legzhuro_step')
+            import :: c_int8_t, c_int32_t, c_int64_t, c_size_t
             integer(c_size_t), value :: kept_len, targets_len, lows_len, highs_len, safe_lows_len, safe_highs_len, weights_len
-            integer(c_size_t), value :: parents_len, scratch_len, answer_len
+            integer(c_size_t), value :: parents_len, scratch_len, book_room, book_length, answer_len
             integer(c_int32_t), value :: total, total_scale, source, scale
             integer(c_int32_t), intent(inout) :: kept(kept_len)
             integer(c_int32_t), intent(in) :: targets(targets_len), lows(lows_len), highs(highs_len), safe_lows(safe_lows_len)
             integer(c_int32_t), intent(in) :: safe_highs(safe_highs_len), weights(weights_len), parents(parents_len)
+            integer(c_int8_t), intent(inout) :: book(book_room)
             integer(c_int64_t), intent(inout) :: scratch(scratch_len), answer(answer_len)
             integer(c_int64_t) :: returned
         end function legzhuro_step
@@ -130,18 +155,19 @@ module legzhuro
         end function legzhuro_family_open
 
         ! Steps a member of a family: answer(1) is the outcome, answer(2) the new total, answer(3) the change, answer(4) the sum
-        ! shared out.
+        ! shared out, answer(5) the new length of the member's book.
         function legzhuro_family_step(family, family_len, member, kept, kept_len, source, scale, targets, targets_len, lows, &
                                       lows_len, highs, highs_len, safe_lows, safe_lows_len, safe_highs, safe_highs_len, weights, &
-                                      weights_len, parents, parents_len, scratch, scratch_len, answer, answer_len) &
-            result(returned) bind(c, name='legzhuro_family_step')
-            import :: c_int32_t, c_int64_t, c_size_t
+                                      weights_len, parents, parents_len, scratch, scratch_len, book, book_room, book_length, &
+                                      answer, answer_len) result(returned) bind(c, name='legzhuro_family_step')
+            import :: c_int8_t, c_int32_t, c_int64_t, c_size_t
             integer(c_size_t), value :: family_len, kept_len, targets_len, lows_len, highs_len, safe_lows_len, safe_highs_len
-            integer(c_size_t), value :: weights_len, parents_len, scratch_len, answer_len
+            integer(c_size_t), value :: weights_len, parents_len, scratch_len, book_room, book_length, answer_len
             integer(c_int32_t), value :: member, source, scale
             integer(c_int32_t), intent(inout) :: kept(kept_len)
             integer(c_int32_t), intent(in) :: targets(targets_len), lows(lows_len), highs(highs_len), safe_lows(safe_lows_len)
             integer(c_int32_t), intent(in) :: safe_highs(safe_highs_len), weights(weights_len), parents(parents_len)
+            integer(c_int8_t), intent(inout) :: book(book_room)
             integer(c_int64_t), intent(inout) :: family(family_len), scratch(scratch_len), answer(answer_len)
             integer(c_int64_t) :: returned
         end function legzhuro_family_step
@@ -175,18 +201,19 @@ module legzhuro
         end function legzhuro_family_waiting
 
         ! A turn: steps the next in turn. answer(1) is the member, or 8 for idle, answer(2) what its step returns, answer(3) the
-        ! outcome, answer(4) the new total, answer(5) the change, answer(6) the sum shared out.
+        ! outcome, answer(4) the new total, answer(5) the change, answer(6) the sum shared out, answer(7) its book's new length.
         function legzhuro_family_turn(family, family_len, kept, kept_len, source, scale, targets, targets_len, lows, lows_len, &
                                       highs, highs_len, safe_lows, safe_lows_len, safe_highs, safe_highs_len, weights, &
-                                      weights_len, parents, parents_len, scratch, scratch_len, answer, answer_len) &
-            result(returned) bind(c, name='legzhuro_family_turn')
-            import :: c_int32_t, c_int64_t, c_size_t
+                                      weights_len, parents, parents_len, scratch, scratch_len, book, book_room, book_length, &
+                                      answer, answer_len) result(returned) bind(c, name='legzhuro_family_turn')
+            import :: c_int8_t, c_int32_t, c_int64_t, c_size_t
             integer(c_size_t), value :: family_len, kept_len, targets_len, lows_len, highs_len, safe_lows_len, safe_highs_len
-            integer(c_size_t), value :: weights_len, parents_len, scratch_len, answer_len
+            integer(c_size_t), value :: weights_len, parents_len, scratch_len, book_room, book_length, answer_len
             integer(c_int32_t), value :: source, scale
             integer(c_int32_t), intent(inout) :: kept(kept_len)
             integer(c_int32_t), intent(in) :: targets(targets_len), lows(lows_len), highs(highs_len), safe_lows(safe_lows_len)
             integer(c_int32_t), intent(in) :: safe_highs(safe_highs_len), weights(weights_len), parents(parents_len)
+            integer(c_int8_t), intent(inout) :: book(book_room)
             integer(c_int64_t), intent(inout) :: family(family_len), scratch(scratch_len), answer(answer_len)
             integer(c_int64_t) :: returned
         end function legzhuro_family_turn

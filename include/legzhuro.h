@@ -14,8 +14,8 @@
  *
  *    1  no items or cells, or more than 512; in a call on a family also another number of cells than the family's
  *    2  fewer nodes than cells, or more than 1024
- *    3  a list of another length, scratch under 4 numbers for each node, or a list or buffer for the answer that is too short; in
- *       legzhuro_write_field a list or buffer that is too short for the cells and nodes
+ *    3  a list of another length, scratch under 4 numbers for each node, a book's buffer under 32768 bytes, or a list or buffer for the answer
+ *       that is too short; in legzhuro_write_field a list or buffer that is too short for the cells and nodes
  *    4  the parents are no tree (place: the smallest node that breaks a rule)
  *    5  crossed bounds; in legzhuro_split also a low below 0 (place: the first item or cell)
  *    6  the highs (in legzhuro_split) or safe highs add up to over 2147483647
@@ -24,15 +24,21 @@
  *    9  a scale above 30
  *   10  a double that is infinite or not a number (place: the field: target 0, low 1, high 2, safe low 3, safe high 4)
  *   11  a double out of range after rounding (place: the field); in legzhuro_export and legzhuro_export_single a mass above 2147483647
- *   12  the kept masses do not add up to the total given; in legzhuro_read_answer the file's masses do not add up to its total
- *   13  a total below 0 or above 2147483647
- *   14  a file of length 0, no multiple of 512, or not that of its cells and nodes; a field file over 18432 bytes or an answer file over 3072
- *   15  a block of the file with a wrong number or check word (place: the block, from 1)
- *   16  a file whose first payload word is not 512, or a spare word that is not 0; an answer file with an outcome above 2 (place: the block)
+ *   12  the kept masses do not add up to the total given; in legzhuro_read_answer the file's masses do not add up to its total; in a book a
+ *       total, a later block's opening one included, that does not follow from the one before (place: the block); in a step a book that closes
+ *       with another total than the one given (place: the last block)
+ *   13  a total below 0 or above 2147483647, in legzhuro_book_start the one that the book is to open with
+ *   14  a file of length 0, no multiple of 512, or not that of its cells and nodes; a field file over 18432 bytes or an answer file over 3072;
+ *       a book of any length but 1 to 64 whole blocks of 512 bytes
+ *   15  a block of the file or book with a wrong number or check word (place: the block, from 1)
+ *   16  a file whose first payload word is not 512, or a spare word that is not 0; an answer file with an outcome above 2 (place: the block);
+ *       in a book a number of records above 41, below 41 before the last block or 0 after the first, an outcome above 2, or a word of an unused
+ *       record that is not 0 (place: the block)
  *   17  a step whose scale is above 30 or not that of the balance; an opening of a member at another scale than the family's
  *   18  a ratio above 1048576 (place: the first cell)
  *   19  a member's number above 7, an opening of a member that is open, a step or a registration of one that is not
  *   20  an opening, or a step with a source above 0, after which the totals of a family would pass its cap in sum
+ *   21  a step whose book is full: every other check of the step has passed
  */
 #ifndef LEGZHURO_H
 #define LEGZHURO_H
@@ -57,6 +63,7 @@ extern "C" {
 #define LEGZHURO_MEMBERS 8            /* of a family */
 #define LEGZHURO_FAMILY 21            /* entries of the list that a family stands in */
 #define LEGZHURO_NOBODY 8             /* in the place of a member: nobody waits */
+#define LEGZHURO_BOOK 32768           /* bytes of a book's buffer, which are those of a full book */
 #define LEGZHURO_MAX_FIELD_FILE 18432 /* bytes */
 #define LEGZHURO_MAX_ANSWER_FILE 3072 /* bytes */
 
@@ -110,36 +117,59 @@ uint64_t legzhuro_split(const int64_t *targets, size_t targets_len, const int64_
  * Refusals: 3 (`answer` has fewer than two entries), 1, 9, 13. */
 uint64_t legzhuro_open(const uint32_t *kept, size_t kept_len, uint32_t scale, uint64_t *answer, size_t answer_len);
 
+/* Starts a source book, which records the accepted steps of a kept field: of each its source, its outcome and its new total. A book without
+ * records that opens with `total` goes to the front of `buffer`, and answer[0] is its length in bytes, 512; later bytes of `buffer` and later
+ * entries of `answer` are left alone. The buffer has LEGZHURO_BOOK bytes, or more, whatever they hold.
+ * A book has 1 to 64 blocks of 512 bytes, with a number and check words as in a field file. The 125 payload words of a block are the total that
+ * it opens with, 41 records of three words (source in two's complement, outcome, new total), and the number of records used; unused ones are 0.
+ * Start a field's book from its total, lend it to the field's steps alone, and keep its length, which each accepted step gives anew. When a
+ * step is refused with 21 the book is full: file its 32768 bytes, start a new one from the total standing, which is the total that the full one
+ * closes with, and make the step again. A book that is not full may be replaced likewise, at the end of a year.
+ * Refusals: 3 (`answer` has no entry, or `buffer` fewer than 32768 bytes), 13. */
+uint64_t legzhuro_book_start(uint32_t total, uint8_t *buffer, size_t buffer_len, uint64_t *answer, size_t answer_len);
+
+/* Reports a book: answer[0] is the total it opens with, answer[1] the sum of its sources above 0, answer[2] the size of the sum of those below,
+ * and answer[3] the total it closes with, which is answer[0] + answer[1] - answer[2]; later entries of `answer` are left alone. `file_len` must
+ * be the book's own length, which may be less than its buffer's. The total it opens with may be any number of 32 bits.
+ * Refusals: 3 (`answer` has fewer than four entries), 14, then 15, 16 and 12 block by block (place: the block). */
+uint64_t legzhuro_book_report(const uint8_t *file, size_t file_len, uint64_t *answer, size_t answer_len);
+
 /* Steps a kept field. `total` and `total_scale` are its balance: as legzhuro_open gave it, then the answer[1] of the last accepted step with
  * the same scale. `kept` are the masses as the last call left them, `source` is what enters (or, below 0, leaves) in this step: the new total
  * is `total` plus `source`. `scale` is the scale of this step's source and field, and must be `total_scale`: unlike units are not added. The
  * other lists are the new field: cell c would like targets[c] (transport may undershoot 0), should lie between lows[c] and highs[c], must lie
  * between safe_lows[c] and safe_highs[c], and shares by weights[c]; parents[v] is the parent of node v, where nodes 0 to cells - 1 are the
  * cells and the last node, its own parent, is the root. The number of cells is the length of `targets`, that of nodes the length of `parents`;
- * `kept` and the other five lists must have one entry for each cell, `scratch` four or more for each node.
- * After an accepted step `kept` holds the new masses; the first four entries of `scratch` for each node are 0, later ones are left alone;
- * answer[0] is the outcome (0: within the bounds, 1: between safe low and low, 2: between high and safe high), answer[1] the new total,
- * answer[2] the change, the sum over cells of the absolute mass minus target, answer[3] the sum shared out, that over inner nodes of the size
- * of what is missing or too much when the node's mass is split among its children (deficit[0] of legzhuro_split), 0 for a field of one node;
- * later entries of `answer` are left alone.
- * Refusals: 1, 2, 3 (also `answer` with fewer than four entries), 17, 4 (place: the smallest node that breaks a rule), 5 (place: the first
- * cell), 6, 7, 12, 13, 8. */
+ * `kept` and the other five lists must have one entry for each cell, `scratch` four or more for each node. `book` is the buffer of the field's
+ * book and `book_room` its bytes, 32768 or more; `book_length` is the length of the book, the first bytes of the buffer: as legzhuro_book_start
+ * gave it, then the answer[4] of the last accepted step. The length told is the book: later bytes are not looked at.
+ * After an accepted step `kept` holds the new masses; the first four entries of `scratch` for each node are 0, later ones are left alone; the
+ * book has one record more, with the source, the outcome and the new total, in its last block or, where that has 41, in a new one behind it,
+ * and closes with the new total; bytes past its last block are left alone. answer[0] is the outcome (0: within the bounds, 1: between safe low
+ * and low, 2: between high and safe high), answer[1] the new total, answer[2] the change, the sum over cells of the absolute mass minus target,
+ * answer[3] the sum shared out, that over inner nodes of the size of what is missing or too much when the node's mass is split among its
+ * children (deficit[0] of legzhuro_split), 0 for a field of one node, answer[4] the book's new length; later entries of `answer` are left alone.
+ * Refusals: 1, 2, 3 (lists, scratch, then `book_room` under 32768; also `answer` with fewer than five entries), 17, 4 (place: the smallest node
+ * that breaks a rule), 5 (place: the first cell), 6, 7, 12, 13, 8; then of the book 14, then 15, 16 and 12 block by block (place: the block),
+ * 12 if it closes with another total than `total` (place: the last block), and last of all 21. */
 uint64_t legzhuro_step(uint32_t total, uint32_t total_scale, uint32_t *kept, size_t kept_len, int32_t source, uint32_t scale,
                        const int32_t *targets, size_t targets_len, const uint32_t *lows, size_t lows_len, const uint32_t *highs,
                        size_t highs_len, const uint32_t *safe_lows, size_t safe_lows_len, const uint32_t *safe_highs,
                        size_t safe_highs_len, const uint32_t *weights, size_t weights_len, const uint32_t *parents, size_t parents_len,
-                       int64_t *scratch, size_t scratch_len, uint64_t *answer, size_t answer_len);
+                       int64_t *scratch, size_t scratch_len, uint8_t *book, size_t book_room, size_t book_length, uint64_t *answer,
+                       size_t answer_len);
 
 /* Starts a family: up to 8 kept fields, its members, over the same cells, of 1 to 512, at one scale of 0 to 30, with a cap on the sum of their
  * totals. The family stands in the first 21 entries of `family`: family[0] is the cap, family[1] the scale, family[2] the number of cells; of
  * member i, 0 to 7, family[3 + 2 * i] is 1 if it is open, else 0, and family[4 + 2 * i] is its total; in family[19] bit i, of value 2^i, is set
  * if member i waits, and family[20] is the member with which the search for the next in turn begins. Nobody is open and nobody waits at the
- * start, and the search begins with member 0; later entries are left alone. Each call is given the list as the last one left it, and each member
- * has a kept list of its own, lent to its calls alone and to the turns that serve it. Then each member keeps the whole account of its own run, as
- * a kept field by itself does; the totals never pass the cap in sum; a member that waits is served within 8 turns, and no other twice before it;
- * and what a member is told and holds depends on its own calls, on scale and cells and, at each call, on the cap less the others' totals, on
- * nothing else. Any list may be handed over: an entry that is too wide is read modulo its width, 2^32 for scale, cells, totals and the start of
- * the search, 256 for who waits and 2 for what is 0 or 1, and the total of a member that is not open counts in the sum as it stands.
+ * start, and the search begins with member 0; later entries are left alone. Each call is given the list as the last one left it, and each
+ * member has a kept list and a book of its own, lent to its calls alone and to the turns that serve it; its book is started from its total.
+ * Then each member keeps the whole account of its own run, its book included, as a kept field by itself does; the totals never pass the cap in
+ * sum; a member that waits is served within 8 turns, and no other twice before it; and what a member is told and holds depends on its own
+ * calls, on scale and cells and, at each call, on the cap less the others' totals, on nothing else. Any list may be handed over: an entry that
+ * is too wide is read modulo its width, 2^32 for scale, cells, totals and the start of the search, 256 for who waits and 2 for what is 0 or 1,
+ * and the total of a member that is not open counts in the sum as it stands.
  * Refusals: 3 (`family` has fewer than 21 entries), 1, 9. */
 uint64_t legzhuro_family_start(uint64_t cap, uint32_t scale, uint32_t cells, uint64_t *family, size_t family_len);
 
@@ -150,15 +180,17 @@ uint64_t legzhuro_family_open(uint64_t *family, size_t family_len, uint32_t memb
                               uint64_t *answer, size_t answer_len);
 
 /* Steps a member of a family, as legzhuro_step does, from the total that the family holds of it. After an accepted step the family holds the
- * new total; the other lists and `answer` are as in legzhuro_step. A source of 0 or below is not refused for the cap.
- * Refusals: 3 (`family` has fewer than 21 entries), 19, 1, 2, 3 (also `answer` with fewer than four entries), 17, 4 (place: the smallest node
- * that breaks a rule), 5 (place: the first cell), 6, 7, 12, 13, 20, 8. */
+ * new total; the other lists, the member's book and `answer` are as in legzhuro_step. A source of 0 or below is not refused for the cap.
+ * Refusals: 3 (`family` has fewer than 21 entries), 19, 1, 2, 3 (lists, scratch, then `book_room` under 32768; also `answer` with fewer than
+ * five entries), 17, 4 (place: the smallest node that breaks a rule), 5 (place: the first cell), 6, 7, 12, 13, 20, 8; then of the book 14, then
+ * 15, 16 and 12 block by block (place: the block), 12 if it closes with another total than the member's (place: the last block), and last of
+ * all 21. */
 uint64_t legzhuro_family_step(uint64_t *family, size_t family_len, uint32_t member, uint32_t *kept, size_t kept_len, int32_t source,
                               uint32_t scale, const int32_t *targets, size_t targets_len, const uint32_t *lows, size_t lows_len,
                               const uint32_t *highs, size_t highs_len, const uint32_t *safe_lows, size_t safe_lows_len,
                               const uint32_t *safe_highs, size_t safe_highs_len, const uint32_t *weights, size_t weights_len,
-                              const uint32_t *parents, size_t parents_len, int64_t *scratch, size_t scratch_len, uint64_t *answer,
-                              size_t answer_len);
+                              const uint32_t *parents, size_t parents_len, int64_t *scratch, size_t scratch_len, uint8_t *book,
+                              size_t book_room, size_t book_length, uint64_t *answer, size_t answer_len);
 
 /* Registers a member of a family as waiting for a turn. Registering twice counts once.
  * Refusals: 3 (`family` has fewer than 21 entries), 19. */
@@ -174,16 +206,18 @@ uint64_t legzhuro_family_next(const uint64_t *family, size_t family_len, uint64_
 uint64_t legzhuro_family_waiting(const uint64_t *family, size_t family_len, uint64_t *answer, size_t answer_len);
 
 /* A turn: serves the next in turn, whose step is called with what is lent, as legzhuro_family_step does, and whose waiting ends with it,
- * accepted or refused. Lend the kept list of the member that legzhuro_family_next gives. answer[0] is the member served and answer[1] what
- * legzhuro_family_step returns for it, so 0 if its step was accepted; then answer[2] is the outcome, answer[3] the new total, answer[4] the
- * change and answer[5] the sum shared out, and 0 each if it was refused. If nobody waits the turn is idle: answer[0] is 8 (LEGZHURO_NOBODY), the
- * next five are 0, and nothing else changes. Later entries of `answer` are left alone. Outside a turn a step serves nobody: who waits, waits on.
- * Refusals: 3 (`family` has fewer than 21 entries or `answer` fewer than six); a refused step is in answer[1], and the turn returns 0. */
+ * accepted or refused. Lend the kept list and the book of the member that legzhuro_family_next gives. answer[0] is the member served and
+ * answer[1] what legzhuro_family_step returns for it, so 0 if its step was accepted; then answer[2] is the outcome, answer[3] the new total,
+ * answer[4] the change, answer[5] the sum shared out and answer[6] the new length of the book, and 0 each if it was refused. If nobody waits
+ * the turn is idle: answer[0] is 8 (LEGZHURO_NOBODY), the next six are 0, and nothing else changes. Later entries of `answer` are left alone.
+ * Outside a turn a step serves nobody: who waits, waits on.
+ * Refusals: 3 (`family` has fewer than 21 entries or `answer` fewer than seven); a refused step is in answer[1], and the turn returns 0. */
 uint64_t legzhuro_family_turn(uint64_t *family, size_t family_len, uint32_t *kept, size_t kept_len, int32_t source, uint32_t scale,
                               const int32_t *targets, size_t targets_len, const uint32_t *lows, size_t lows_len, const uint32_t *highs,
                               size_t highs_len, const uint32_t *safe_lows, size_t safe_lows_len, const uint32_t *safe_highs,
                               size_t safe_highs_len, const uint32_t *weights, size_t weights_len, const uint32_t *parents, size_t parents_len,
-                              int64_t *scratch, size_t scratch_len, uint64_t *answer, size_t answer_len);
+                              int64_t *scratch, size_t scratch_len, uint8_t *book, size_t book_room, size_t book_length, uint64_t *answer,
+                              size_t answer_len);
 
 /* Makes the bounds of a field from mixing ratios: air[c] is the mass of the air of cell c, of 1 to 512 cells, low_ratios[c] and high_ratios[c]
  * are its ratios in parts of 1048576, at most that each. lows[c] is air times low ratio / 1048576 rounded up, highs[c] air times high ratio /

@@ -1,5 +1,6 @@
 //! The calls from C of the proved library, as `legzhuro.h` declares them, and safe wrappers: a slice goes as its pointer and its length.
 
+use crate::book::LentBook;
 use crate::operations::Balance;
 use crate::tree::Lists;
 
@@ -45,6 +46,9 @@ extern "C" {
         parents_len: usize,
         scratch: *mut i64,
         scratch_len: usize,
+        book: *mut u8,
+        book_room: usize,
+        book_length: usize,
         answer: *mut u64,
         answer_len: usize,
     ) -> u64;
@@ -140,6 +144,9 @@ extern "C" {
         parents_len: usize,
         scratch: *mut i64,
         scratch_len: usize,
+        book: *mut u8,
+        book_room: usize,
+        book_length: usize,
         answer: *mut u64,
         answer_len: usize,
     ) -> u64;
@@ -169,9 +176,14 @@ extern "C" {
         parents_len: usize,
         scratch: *mut i64,
         scratch_len: usize,
+        book: *mut u8,
+        book_room: usize,
+        book_length: usize,
         answer: *mut u64,
         answer_len: usize,
     ) -> u64;
+    fn legzhuro_book_start(total: u32, buffer: *mut u8, buffer_len: usize, answer: *mut u64, answer_len: usize) -> u64;
+    fn legzhuro_book_report(file: *const u8, file_len: usize, answer: *mut u64, answer_len: usize) -> u64;
 }
 
 // Safety of every wrapper: the pointers and lengths are those of slices, so they are valid, aligned and not null, and exclusive borrows
@@ -205,7 +217,17 @@ pub fn open(kept: &[u32], scale: u32, answer: &mut [u64]) -> u64 {
     unsafe { legzhuro_open(kept.as_ptr(), kept.len(), scale, answer.as_mut_ptr(), answer.len()) }
 }
 
-pub fn step(balance: Balance, kept: &mut [u32], source: i32, scale: u32, lists: &Lists, scratch: &mut [i64], answer: &mut [u64]) -> u64 {
+#[allow(clippy::too_many_arguments)] // those of the call
+pub fn step(
+    balance: Balance,
+    kept: &mut [u32],
+    source: i32,
+    scale: u32,
+    lists: &Lists,
+    scratch: &mut [i64],
+    book: LentBook,
+    answer: &mut [u64],
+) -> u64 {
     unsafe {
         legzhuro_step(
             balance.total,
@@ -230,6 +252,9 @@ pub fn step(balance: Balance, kept: &mut [u32], source: i32, scale: u32, lists: 
             lists.parents.len(),
             scratch.as_mut_ptr(),
             scratch.len(),
+            book.buffer.as_mut_ptr(),
+            book.buffer.len(),
+            book.length,
             answer.as_mut_ptr(),
             answer.len(),
         )
@@ -327,6 +352,7 @@ pub fn family_step(
     scale: u32,
     lists: &Lists,
     scratch: &mut [i64],
+    book: LentBook,
     answer: &mut [u64],
 ) -> u64 {
     unsafe {
@@ -354,6 +380,9 @@ pub fn family_step(
             lists.parents.len(),
             scratch.as_mut_ptr(),
             scratch.len(),
+            book.buffer.as_mut_ptr(),
+            book.buffer.len(),
+            book.length,
             answer.as_mut_ptr(),
             answer.len(),
         )
@@ -372,6 +401,7 @@ pub fn family_waiting(family: &[u64], answer: &mut [u64]) -> u64 {
     unsafe { legzhuro_family_waiting(family.as_ptr(), family.len(), answer.as_mut_ptr(), answer.len()) }
 }
 
+#[allow(clippy::too_many_arguments)] // those of the call
 pub fn family_turn(
     family: &mut [u64],
     kept: &mut [u32],
@@ -379,6 +409,7 @@ pub fn family_turn(
     scale: u32,
     lists: &Lists,
     scratch: &mut [i64],
+    book: LentBook,
     answer: &mut [u64],
 ) -> u64 {
     unsafe {
@@ -405,8 +436,19 @@ pub fn family_turn(
             lists.parents.len(),
             scratch.as_mut_ptr(),
             scratch.len(),
+            book.buffer.as_mut_ptr(),
+            book.buffer.len(),
+            book.length,
             answer.as_mut_ptr(),
             answer.len(),
         )
     }
+}
+
+pub fn book_start(total: u32, buffer: &mut [u8], answer: &mut [u64]) -> u64 {
+    unsafe { legzhuro_book_start(total, buffer.as_mut_ptr(), buffer.len(), answer.as_mut_ptr(), answer.len()) }
+}
+
+pub fn book_report(file: &[u8], answer: &mut [u64]) -> u64 {
+    unsafe { legzhuro_book_report(file.as_ptr(), file.len(), answer.as_mut_ptr(), answer.len()) }
 }

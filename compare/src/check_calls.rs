@@ -1,13 +1,16 @@
 //! Split, Open, Step, Import and both exports through the calls from C, compared with the second implementation: the value returned and
-//! every lent list at exit, entry by entry. Step is also held to its version before ticket 9 of 02.
+//! every lent list at exit, entry by entry. Step is also held to its version before ticket 9 of 02, and its book to the one before with one
+//! record more.
 
 use crate::calls;
+use crate::check_books::{check_added, note_book};
 use crate::doubles;
-use crate::from_c::{self, returned};
+use crate::from_c::{self, returned, STEP_ENTRIES};
 use crate::operations::{Balance, Refusal, FORMER_SCRATCH_PER_NODE, LIMIT, MAX_SCALE, SCRATCH_PER_NODE};
 use crate::random::{self, Random};
+use crate::random_books::{book_to, break_book, record_count, BookBuffer};
 use crate::shared::shared_by_masses;
-use crate::tally::Tally;
+use crate::tally::{Occurrences, Tally};
 use crate::tree::{Field, Workspace};
 use std::fmt::Debug;
 use std::num::FpCategory;
@@ -232,33 +235,35 @@ pub struct StepCall {
     pub scale: u32,
     pub field: Field,
     pub scratch: Vec<i64>,
+    pub book: BookBuffer,
     pub answer: Vec<u64>,
 }
 
-/// The value returned and the lists that a step may write, at exit.
+/// The value returned and the lists that a step may write, at exit; the book with the length that was told.
 #[derive(Debug, PartialEq)]
 pub struct StepExit {
     pub returned: u64,
     pub kept: Vec<u32>,
     pub scratch: Vec<i64>,
+    pub book: BookBuffer,
     pub answer: Vec<u64>,
 }
 
 /// Runs the second implementation, with so many scratch numbers for each node.
 fn second_step<const PER_NODE: usize>(workspace: &mut Workspace, call: &StepCall) -> (Result<(), Refusal>, StepExit) {
     let &StepCall { balance, source, scale, .. } = call;
-    let (mut kept, mut scratch, mut answer) = (call.kept.clone(), call.scratch.clone(), call.answer.clone());
+    let (mut kept, mut scratch, mut book, mut answer) = (call.kept.clone(), call.scratch.clone(), call.book.clone(), call.answer.clone());
     let lists = call.field.lists();
-    let result = from_c::step_by::<PER_NODE>(workspace, balance, &mut kept, source, scale, &lists, &mut scratch, &mut answer);
-    (result, StepExit { returned: returned(result), kept, scratch, answer })
+    let result = from_c::step_by::<PER_NODE>(workspace, balance, &mut kept, source, scale, &lists, &mut scratch, book.lend(), &mut answer);
+    (result, StepExit { returned: returned(result), kept, scratch, book, answer })
 }
 
 /// Runs the library, with the scratch given.
 fn library_step(call: &StepCall, scratch: &[i64]) -> StepExit {
     let &StepCall { balance, source, scale, .. } = call;
-    let (mut kept, mut scratch, mut answer) = (call.kept.clone(), scratch.to_vec(), call.answer.clone());
-    let returned = calls::step(balance, &mut kept, source, scale, &call.field.lists(), &mut scratch, &mut answer);
-    StepExit { returned, kept, scratch, answer }
+    let (mut kept, mut scratch, mut book, mut answer) = (call.kept.clone(), scratch.to_vec(), call.book.clone(), call.answer.clone());
+    let returned = calls::step(balance, &mut kept, source, scale, &call.field.lists(), &mut scratch, book.lend(), &mut answer);
+    StepExit { returned, kept, scratch, book, answer }
 }
 
 /// Runs both sides; returns the exits of the second implementation and of the library.
@@ -273,6 +278,7 @@ pub fn compare_step(tally: &mut Tally, workspace: &mut Workspace, call: &StepCal
         if theirs.answer[3] != shared {
             tally.difference(format!("step {call:?}: by its masses {shared} is shared out, library {theirs:?}"));
         }
+        check_added(tally, call, &theirs.answer, &theirs.book);
     }
     (mine, theirs)
 }
@@ -310,7 +316,8 @@ pub fn scratch_length(random: &mut Random, nodes: usize) -> usize {
     random.pick(&[now, now, now + few, between, between, formerly, formerly + few, formerly + few])
 }
 
-/// A step of the field to the total wanted, from any kept masses and source that lead to it, at any scale in range.
+/// A step of the field to the total wanted, from any kept masses and source that lead to it, at any scale in range, with a book in order that
+/// is not full.
 pub fn make_step(random: &mut Random, field: Field, wanted: u32) -> StepCall {
     let source = match random.below(4) {
         0 => 0,
@@ -321,6 +328,8 @@ pub fn make_step(random: &mut Random, field: Field, wanted: u32) -> StepCall {
     let total = (i64::from(wanted) - i64::from(source)).clamp(0, i64::from(u32::MAX)) as u32;
     let scale = sound_scale(random);
     let length = scratch_length(random, field.parents.len());
+    let records = record_count(random);
+    let book = book_to(random, total, records);
     let longer = random.pick(&[0, 0, 1, 4]);
     StepCall {
         balance: Balance { total, scale },
@@ -328,7 +337,8 @@ pub fn make_step(random: &mut Random, field: Field, wanted: u32) -> StepCall {
         source: (i64::from(wanted) - i64::from(total)) as i32,
         scale,
         scratch: any_bits(random, length, |bits| bits as i64),
-        answer: any_bits(random, 4 + longer, |bits| bits),
+        book: BookBuffer::of(random, &book),
+        answer: any_bits(random, STEP_ENTRIES + longer, |bits| bits),
         field,
     }
 }
@@ -376,7 +386,7 @@ fn break_scale(random: &mut Random, call: &mut StepCall) {
 
 pub fn break_step(random: &mut Random, call: &mut StepCall) {
     let value = random::odd_number(random, call.field.targets.len(), call.field.parents.len());
-    match random.below(20) {
+    match random.below(26) {
         0..=4 => random::break_field(random, &mut call.field),
         5 => stretch(random, &mut call.field.targets, -1),
         6 => stretch(random, &mut call.field.lows, value),
@@ -394,14 +404,15 @@ pub fn break_step(random: &mut Random, call: &mut StepCall) {
             match random.below(3) {
                 0 => call.scratch.truncate(needed.saturating_sub(1)),
                 1 => call.scratch.truncate(random.index(needed.max(1))),
-                _ => call.answer.truncate(random.index(4)),
+                _ => call.answer.truncate(random.index(STEP_ENTRIES)),
             }
         }
         14 => break_kept(random, &mut call.kept),
         15 => call.balance.total = call.balance.total.wrapping_add(random.pick(&[1, 2, u32::MAX, 1 << 31])),
         16 => call.source = random.pick(&[i32::MIN, i32::MAX, value as i32]),
         17 | 18 => break_scale(random, call),
-        _ => resize_cells(call, wrong_count(random)),
+        19 => resize_cells(call, wrong_count(random)),
+        _ => break_book(random, &mut call.book),
     }
 }
 
@@ -455,7 +466,7 @@ impl Scratches {
 }
 
 pub fn steps(tally: &mut Tally, random: &mut Random, count: u64) {
-    let (mut workspace, mut scratches) = (Workspace::default(), Scratches::default());
+    let (mut workspace, mut scratches, mut occurred) = (Workspace::default(), Scratches::default(), Occurrences::default());
     for _ in 0..count {
         let cells = random::cell_count(random);
         let field = random::field(random, cells);
@@ -466,8 +477,10 @@ pub fn steps(tally: &mut Tally, random: &mut Random, count: u64) {
         }
         let (exit, _) = compare_step(tally, &mut workspace, &call);
         scratches.count(&call, &exit);
+        note_book(&mut occurred, &call, &exit);
     }
     scratches.look_for(tally);
+    occurred.look_for(tally, "steps");
 }
 
 // ---- doubles ----

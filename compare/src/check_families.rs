@@ -1,13 +1,16 @@
-//! Families of kept fields, after tickets 10 and 11 of 02, through the calls from C and compared with the second implementation: what
+//! Families of kept fields, after tickets 10 to 12 of 02, through the calls from C and compared with the second implementation: what
 //! every call of a family is made of, and single starts, openings and steps on any family. `check_turns` has the other single calls, and
 //! `check_histories` the histories of families.
 
 use crate::calls;
+use crate::check_books::check_added;
 use crate::check_calls::{any_bits, break_step, breaks, make_kept, make_scale, make_step, wrong_count, StepCall};
 use crate::families::{Family, Member, MEMBERS};
 use crate::from_c::{self, member_entry, read_family, returned, write_family, FAMILY_ENTRIES, FROM_ENTRY, NOBODY, WAITING_ENTRY};
+use crate::from_c::{STEP_ENTRIES, TURN_ENTRIES};
 use crate::operations::{Balance, Refusal, LIMIT};
 use crate::random::{self, Random};
+use crate::random_books::BookBuffer;
 use crate::tally::{Occurrences, Tally};
 use crate::tree::{sum, Workspace};
 
@@ -48,9 +51,9 @@ impl Kind {
     fn needed(&self) -> usize {
         match self {
             Kind::Open(_) => 2,
-            Kind::Step(_) => 4,
+            Kind::Step(_) => STEP_ENTRIES,
             Kind::Register => 0,
-            Kind::Turn(_) => 6,
+            Kind::Turn(_) => TURN_ENTRIES,
             Kind::Next(_) | Kind::Waiting(_) => 1,
         }
     }
@@ -86,6 +89,8 @@ pub struct Exit {
     pub family: Vec<u64>,
     pub kept: Vec<u32>,
     pub scratch: Vec<i64>,
+    /// With the length that was told.
+    pub book: BookBuffer,
     pub answer: Vec<u64>,
 }
 
@@ -103,9 +108,13 @@ impl Exit {
         let entry = Exit { family: call.family.clone(), ..Exit::default() };
         match &call.kind {
             Kind::Open(open) => Exit { kept: open.kept.clone(), answer: open.answer.clone(), ..entry },
-            Kind::Step(step) | Kind::Turn(step) => {
-                Exit { kept: step.kept.clone(), scratch: step.scratch.clone(), answer: step.answer.clone(), ..entry }
-            }
+            Kind::Step(step) | Kind::Turn(step) => Exit {
+                kept: step.kept.clone(),
+                scratch: step.scratch.clone(),
+                book: step.book.clone(),
+                answer: step.answer.clone(),
+                ..entry
+            },
             Kind::Register => entry,
             Kind::Next(answer) | Kind::Waiting(answer) => Exit { answer: answer.clone(), ..entry },
         }
@@ -116,7 +125,7 @@ impl Exit {
         let (member, returned, values) = match &call.kind {
             Kind::Next(_) | Kind::Waiting(_) => return None,
             Kind::Turn(_) if self.returned != 0 || self.answer[0] == NOBODY => return None,
-            Kind::Turn(_) => (self.answer[0] as u32, self.answer[1], &self.answer[2..6]),
+            Kind::Turn(_) => (self.answer[0] as u32, self.answer[1], &self.answer[2..TURN_ENTRIES]),
             kind => (call.member, self.returned, self.answer.get(..kind.needed()).unwrap_or_default()),
         };
         Some(Told { member, returned, values: if returned == 0 { values } else { &[] } })
@@ -126,15 +135,18 @@ impl Exit {
 /// Runs the second implementation.
 fn second_call(workspace: &mut Workspace, call: &Call) -> Exit {
     let mut exit = Exit::entry(call);
-    let Exit { family, kept, scratch, answer, .. } = &mut exit;
+    let Exit { family, kept, scratch, book, answer, .. } = &mut exit;
     exit.returned = returned(match &call.kind {
         Kind::Open(open) => from_c::family_open(family, call.member, kept, open.scale, answer),
         Kind::Step(step) => {
             let lists = step.field.lists();
-            from_c::family_step(workspace, family, call.member, kept, step.source, step.scale, &lists, scratch, answer)
+            from_c::family_step(workspace, family, call.member, kept, step.source, step.scale, &lists, scratch, book.lend(), answer)
         }
         Kind::Register => from_c::family_register(family, call.member),
-        Kind::Turn(step) => from_c::family_turn(workspace, family, kept, step.source, step.scale, &step.field.lists(), scratch, answer),
+        Kind::Turn(step) => {
+            let lists = step.field.lists();
+            from_c::family_turn(workspace, family, kept, step.source, step.scale, &lists, scratch, book.lend(), answer)
+        }
         Kind::Next(_) => from_c::family_next(family, answer),
         Kind::Waiting(_) => from_c::family_waiting(family, answer),
     });
@@ -144,12 +156,15 @@ fn second_call(workspace: &mut Workspace, call: &Call) -> Exit {
 /// Runs the library.
 pub fn library_call(call: &Call) -> Exit {
     let mut exit = Exit::entry(call);
-    let Exit { family, kept, scratch, answer, .. } = &mut exit;
+    let Exit { family, kept, scratch, book, answer, .. } = &mut exit;
     exit.returned = match &call.kind {
         Kind::Open(open) => calls::family_open(family, call.member, kept, open.scale, answer),
-        Kind::Step(step) => calls::family_step(family, call.member, kept, step.source, step.scale, &step.field.lists(), scratch, answer),
+        Kind::Step(step) => {
+            let lists = step.field.lists();
+            calls::family_step(family, call.member, kept, step.source, step.scale, &lists, scratch, book.lend(), answer)
+        }
         Kind::Register => calls::family_register(family, call.member),
-        Kind::Turn(step) => calls::family_turn(family, kept, step.source, step.scale, &step.field.lists(), scratch, answer),
+        Kind::Turn(step) => calls::family_turn(family, kept, step.source, step.scale, &step.field.lists(), scratch, book.lend(), answer),
         Kind::Next(_) => calls::family_next(family, answer),
         Kind::Waiting(_) => calls::family_waiting(family, answer),
     };
@@ -189,6 +204,9 @@ pub fn compare_call(tally: &mut Tally, workspace: &mut Workspace, call: &Call) -
     tally.input(mine == theirs, || format!("family {call:?}: second implementation {mine:?}, library {theirs:?}"));
     if !matches!(call.kind, Kind::Turn(_)) && !serves_nobody(call, &mine) {
         tally.difference(format!("family {call:?} serves a member: {mine:?}"));
+    }
+    if let (Kind::Step(step) | Kind::Turn(step), Some(Told { returned: 0, values, .. })) = (&call.kind, mine.told(call)) {
+        check_added(tally, step, values, &mine.book);
     }
     mine
 }

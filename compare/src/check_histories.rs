@@ -1,14 +1,15 @@
-//! Histories of families, after tickets 10 and 11 of 02, through the calls from C and compared with the second implementation: after each
-//! call the cap, the account of every member, who waits and who is next are checked by what the calls so far have told, and one member's
-//! calls are made again in another family.
+//! Histories of families, after tickets 10 to 12 of 02, through the calls from C and compared with the second implementation: after each
+//! call the cap, the account of every member, its book, who waits and who is next are checked by what the calls so far have told, and one
+//! member's calls are made again in another family.
 
+use crate::check_books::Volume;
 use crate::check_calls::{break_step, sound_scale, wrong_scale, StepCall};
 use crate::check_families::{any_from, any_list, any_members, break_lent, compare_call, compare_start, library_call, opening_answer};
 use crate::check_families::{Call, Exit, Kind, OpenCall, Told};
 use crate::check_run::{call_to, miss_total, next_total};
 use crate::check_turns::{reading_answer, set_turns, turns_before, Record};
 use crate::families::{Family, MEMBERS};
-use crate::from_c::{member_entry, read_family, write_family, FAMILY_ENTRIES, FROM_ENTRY, NOBODY, WAITING_ENTRY};
+use crate::from_c::{member_entry, read_family, write_family, FAMILY_ENTRIES, FROM_ENTRY, NOBODY, TURN_ENTRIES, WAITING_ENTRY};
 use crate::operations::{Balance, LIMIT, MAX_SCALE};
 use crate::random::{self, Random};
 use crate::tally::{Occurrences, Tally};
@@ -21,6 +22,8 @@ struct Account {
     opening: Option<i64>,
     /// The sum of the sources of the accepted steps.
     sources: i64,
+    /// The book, which a member that is not open has with total 0.
+    volume: Volume,
 }
 
 impl Account {
@@ -28,14 +31,36 @@ impl Account {
         self.opening.map_or(0, |opening| opening + self.sources)
     }
 
-    /// Takes over what an accepted call of the member has left.
-    fn accept(&mut self, kind: &Kind, kept: Vec<u32>) {
+    /// Takes over what an accepted call of the member has left. With the opening begins a new book.
+    fn accept(&mut self, tally: &mut Tally, random: &mut Random, kind: &Kind, values: &[u64], exit: Exit) {
         match kind {
-            Kind::Open(open) => self.opening = Some(sum(&open.kept) as i64),
-            Kind::Step(step) | Kind::Turn(step) => self.sources += i64::from(step.source),
+            Kind::Open(open) => {
+                let total = sum(&open.kept);
+                self.opening = Some(total as i64);
+                self.volume = Volume::start(tally, random, total as u32);
+            }
+            Kind::Step(step) | Kind::Turn(step) => {
+                self.sources += i64::from(step.source);
+                self.volume.take_over(tally, step, &exit.kept, values, exit.book);
+            }
             _ => return,
         }
-        self.kept = kept;
+        self.kept = exit.kept;
+    }
+
+    /// Gives the member another book: for a full one the one that opens with its closing total, else, now and then, any that closes with the
+    /// member's total.
+    fn replace_book(&mut self, tally: &mut Tally, random: &mut Random, occurred: &mut Occurrences) {
+        let (full, total) = (self.volume.is_full(), self.total() as u32);
+        let replaced = full && random.chance(15);
+        let exchanged = !full && self.opening.is_some() && random.chance(2);
+        occurred.note("full books replaced", replaced);
+        occurred.note("books exchanged that are not full", exchanged);
+        if replaced {
+            self.volume = self.volume.replacement(tally, random);
+        } else if exchanged {
+            self.volume = Volume::other(tally, random, total);
+        }
     }
 }
 
@@ -54,7 +79,7 @@ impl History {
         let length = FAMILY_ENTRIES + random.pick(&[0, 0, 1, 2]);
         let list = any_list(random, length);
         let started = compare_start(tally, cap, sound_scale(random), cells as u32, &list);
-        let account = || Account { kept: vec![0; cells], opening: None, sources: 0 };
+        let mut account = || Account { kept: vec![0; cells], opening: None, sources: 0, volume: Volume::start(tally, random, 0) };
         History { family: started.clone(), started, accounts: [(); MEMBERS].map(|()| account()), turns: Record::default() }
     }
 
@@ -69,10 +94,11 @@ impl History {
         family.cap.saturating_sub(family.others(member))
     }
 
-    /// Whether a step of the member is lent the member's own kept list. An opening brings the list that becomes it.
-    fn own_list(&self, call: &Call, member: usize) -> bool {
+    /// Whether a step of the member is lent the member's own kept list and book. An opening brings the list that becomes it.
+    fn own_lists(&self, call: &Call, member: usize) -> bool {
+        let lent = |step: &StepCall, account: &Account| account.kept == step.kept && account.volume.lent == step.book;
         match &call.kind {
-            Kind::Step(step) | Kind::Turn(step) => self.accounts.get(member).is_some_and(|account| account.kept == step.kept),
+            Kind::Step(step) | Kind::Turn(step) => self.accounts.get(member).is_some_and(|account| lent(step, account)),
             _ => true,
         }
     }
@@ -89,6 +115,8 @@ impl History {
             19
         } else if grows && total > self.room(member) {
             20
+        } else if matches!(call.kind, Kind::Step(_) | Kind::Turn(_)) && account.volume.is_full() {
+            21
         } else {
             0
         }
@@ -99,7 +127,9 @@ impl History {
         match &call.kind {
             Kind::Turn(_) => {
                 let (member, returned) = exit.told(call).map_or((NOBODY, 0), |told| (u64::from(told.member), told.returned));
-                vec![member, returned, 0, 0, 0, 0]
+                let mut answer = vec![0; TURN_ENTRIES];
+                (answer[0], answer[1]) = (member, returned);
+                answer
             }
             Kind::Next(_) => vec![self.turns.next().map_or(NOBODY, |member| member as u64)],
             Kind::Waiting(_) => vec![self.turns.count() as u64],
@@ -147,26 +177,26 @@ impl History {
         }
     }
 
-    /// Whether a call is one of this history: not if it was lent another kept list and is accepted nevertheless.
+    /// Whether a call is one of this history: not if it was lent another kept list or book and is accepted nevertheless.
     fn has(&self, call: &Call, exit: &Exit) -> bool {
-        exit.told(call).is_none_or(|told| told.returned != 0 || self.own_list(call, told.member as usize))
+        exit.told(call).is_none_or(|told| told.returned != 0 || self.own_lists(call, told.member as usize))
     }
 
     /// Takes over what a call has left, if it is accepted or a turn that serves.
-    fn take_over(&mut self, call: &Call, exit: Exit) {
-        let Some(Told { member, returned, .. }) = exit.told(call).filter(|_| exit.returned == 0) else {
+    fn take_over(&mut self, tally: &mut Tally, random: &mut Random, call: &Call, exit: Exit) {
+        let Some(Told { member, returned, values }) = exit.told(call).filter(|_| exit.returned == 0) else {
             return;
         };
-        let member = member as usize;
+        let (member, values) = (member as usize, values.to_vec());
         match &call.kind {
             Kind::Register => self.turns.register(member),
             Kind::Turn(_) => self.turns.serve(member),
             _ => {}
         }
+        self.family.clone_from(&exit.family);
         if returned == 0 {
-            self.accounts[member].accept(&call.kind, exit.kept);
+            self.accounts[member].accept(tally, random, &call.kind, &values, exit);
         }
-        self.family = exit.family;
     }
 
     /// The list of the family is what was started, the accounts and the record, entry by entry; the kept list of a member that is open adds
@@ -203,6 +233,8 @@ impl History {
         occurred.note("openings refused with 20", opening && refused);
         occurred.note("steps refused with 20", outside && refused);
         occurred.note("turns whose step was refused with 20", turn && refused);
+        occurred.note("steps refused with 21", outside && returned == Some(21));
+        occurred.note("turns whose step was refused with 21", turn && returned == Some(21));
         occurred.note("steps with a source above 0 refused with 8", source > 0 && returned == Some(8));
         occurred.note("openings while members wait", opening && self.turns.count() > 0);
         let next = told.is_some_and(|told| self.turns.next() == Some(told.member as usize));
@@ -223,7 +255,7 @@ impl History {
         occurred.note("turns whose step was accepted", served && accepted);
         occurred.note("turns whose step was refused", served && !accepted);
         occurred.note("turns refused with 3", turn && exit.returned == 3);
-        occurred.note("turns lent another member's list", served && !self.own_list(call, member));
+        occurred.note("turns lent another member's list", served && !self.own_lists(call, member));
         occurred.note("turns that go round past member 7", served && turns.last().is_some_and(|last| last > member));
         occurred.note("turns that serve the same member again", served && turns.last() == Some(member));
         occurred.note("members served after 7 others", served && waits.is_some_and(|others| others.len() + 1 == MEMBERS));
@@ -273,7 +305,7 @@ fn next_step(random: &mut Random, history: &History, member: usize) -> (StepCall
     let account = &history.accounts[member];
     let balance = Balance { total: account.total() as u32, scale: history.settings().scale };
     let wanted = if random.chance(5) { total_near(random, history.room(member)) } else { next_total(random, balance.total) };
-    let mut step = call_to(random, &account.kept, balance, wanted);
+    let mut step = call_to(random, &account.kept, balance, account.volume.lent.clone(), wanted);
     let broken = random.chance(25);
     if broken && random.chance(20) {
         miss_total(random, &mut step);
@@ -297,7 +329,7 @@ fn next_turn(random: &mut Random, history: &History, member: usize) -> (Kind, bo
     let next = history.turns.next().unwrap_or(member);
     let lent = if random.chance(3) { member } else { next };
     let (mut step, broken) = next_step(random, history, lent);
-    step.answer = vec![u64::MAX; 6];
+    step.answer = vec![u64::MAX; TURN_ENTRIES];
     (Kind::Turn(step), broken || lent != next)
 }
 
@@ -368,14 +400,15 @@ impl Replay {
         write_family(&family, &mut self.family);
     }
 
-    /// The member's call for this family: with its own list, if the history lent it, and if it is a turn with the member next.
+    /// The member's call for this family: with its own list, if the history lent it, and the same book, and if it is a turn with the member
+    /// next.
     fn call_again(&mut self, random: &mut Random, history: &History, call: &Call, mut kind: Kind) -> Call {
         self.set_room(random, history.room(self.member));
         if let Kind::Turn(_) = kind {
             set_turns(&mut self.family, turns_before(random, self.member));
         }
         if let Kind::Step(step) | Kind::Turn(step) = &mut kind {
-            if history.own_list(call, self.member) {
+            if history.own_lists(call, self.member) {
                 step.kept.clone_from(&self.kept);
             }
         }
@@ -411,8 +444,8 @@ impl Replay {
             let again = self.call_again(random, history, call, kind);
             let got = library_call(&again);
             let told = got.told(&again) == exit.told(call);
-            let left = (&got.kept, &got.scratch, &got.family) == (&exit.kept, &exit.scratch, &self.wanted_family(&again, exit));
-            if !told || !left {
+            let left = (&got.kept, &got.scratch, &got.book) == (&exit.kept, &exit.scratch, &exit.book);
+            if !told || !left || got.family != self.wanted_family(&again, exit) {
                 tally.difference(format!("family {call:?}: {exit:?}, in another family {again:?}: {got:?}"));
             }
         }
@@ -422,7 +455,7 @@ impl Replay {
     /// Takes over what an accepted opening or step of the history has left.
     fn take_over(&mut self, history: &History, call: &Call, exit: &Exit) {
         let accepted = exit.told(call).is_some_and(|told| told.returned == 0);
-        if accepted && !matches!(call.kind, Kind::Register) && history.own_list(call, self.member) {
+        if accepted && !matches!(call.kind, Kind::Register) && history.own_lists(call, self.member) {
             let entry = member_entry(self.member);
             self.family[entry..entry + 2].copy_from_slice(&exit.family[entry..entry + 2]);
             self.kept.clone_from(&exit.kept);
@@ -440,6 +473,8 @@ fn history(tally: &mut Tally, random: &mut Random, occurred: &mut Occurrences, c
         if random.chance(1) {
             pace = random.pick(&PACES);
         }
+        let member = random.index(MEMBERS);
+        history.accounts[member].replace_book(tally, random, occurred);
         let (call, broken) = next_call(random, &history, pace);
         let exit = compare_call(tally, &mut workspace, &call);
         let again = exit.told(&call).is_some_and(|told| told.member as usize == replay.member);
@@ -450,7 +485,7 @@ fn history(tally: &mut Tally, random: &mut Random, occurred: &mut Occurrences, c
         history.check_exit(tally, &call, broken, &exit);
         history.check_turn(tally, &call, &exit);
         if history.has(&call, &exit) {
-            history.take_over(&call, exit);
+            history.take_over(tally, random, &call, exit);
         }
         history.check_accounts(tally, &call);
     }

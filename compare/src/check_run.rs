@@ -1,10 +1,14 @@
 //! Years of half-hour steps of one kept field, refused calls among them. After every accepted step the account is checked: the kept masses
-//! add up to the opening total and the sources of the accepted steps, that is the total returned, and the step was at the opening's scale.
+//! add up to the opening total and the sources of the accepted steps, that is the total returned, and the step was at the opening's scale. The
+//! book goes along, and is replaced when it is full.
 
 use crate::calls;
+use crate::check_books::Volume;
 use crate::check_calls::{break_step, compare_step, scratch_length, sound_scale, StepCall};
+use crate::from_c::STEP_ENTRIES;
 use crate::operations::{Balance, LIMIT};
 use crate::random::{self, Random};
+use crate::random_books::BookBuffer;
 use crate::tally::Tally;
 use crate::tree::{sum, Field, Workspace};
 
@@ -53,14 +57,14 @@ pub fn next_total(random: &mut Random, total: u32) -> u32 {
     wanted.clamp(0, limit) as u32
 }
 
-/// A call on the kept field that all checks let pass.
-fn good_call(random: &mut Random, kept: &[u32], balance: Balance) -> StepCall {
+/// A call on the kept field that all checks let pass, those of the book as far as it is in order, not full and of the same total.
+pub fn good_call(random: &mut Random, kept: &[u32], balance: Balance, book: BookBuffer) -> StepCall {
     let wanted = next_total(random, balance.total);
-    call_to(random, kept, balance, wanted)
+    call_to(random, kept, balance, book, wanted)
 }
 
 /// The same to the total wanted.
-pub fn call_to(random: &mut Random, kept: &[u32], balance: Balance, wanted: u32) -> StepCall {
+pub fn call_to(random: &mut Random, kept: &[u32], balance: Balance, book: BookBuffer, wanted: u32) -> StepCall {
     let outcome = random.below(3);
     let field = next_field(random, kept, wanted, outcome);
     StepCall {
@@ -69,7 +73,8 @@ pub fn call_to(random: &mut Random, kept: &[u32], balance: Balance, wanted: u32)
         source: (i64::from(wanted) - i64::from(balance.total)) as i32,
         scale: balance.scale,
         scratch: vec![-1; scratch_length(random, field.parents.len())],
-        answer: vec![u64::MAX; 4],
+        book,
+        answer: vec![u64::MAX; STEP_ENTRIES],
         field,
     }
 }
@@ -80,8 +85,8 @@ pub fn miss_total(random: &mut Random, call: &mut StepCall) {
     call.source = (random.pick(&beyond) - i64::from(call.balance.total)).clamp(i64::from(i32::MIN), i64::from(i32::MAX)) as i32;
 }
 
-/// Makes steps until `steps` have been accepted.
-pub fn run(tally: &mut Tally, random: &mut Random, cells: usize, steps: u64) {
+/// Makes steps until `steps` have been accepted. Before so many calls in a hundred the book is exchanged for another.
+pub fn run(tally: &mut Tally, random: &mut Random, cells: usize, steps: u64, exchanges: u64) {
     let (mut kept, scale) = (random::partition(random, 1_000_000, cells), sound_scale(random));
     let mut answer = [0; 2];
     let returned = calls::open(&kept, scale, &mut answer);
@@ -89,23 +94,34 @@ pub fn run(tally: &mut Tally, random: &mut Random, cells: usize, steps: u64) {
         tally.difference(format!("open {kept:?} scale {scale}: {returned:#x} {answer:?}"));
     }
     let opened = Balance { total: answer[0] as u32, scale: answer[1] as u32 };
-    let mut workspace = Workspace::default();
-    let (mut balance, mut sources, mut accepted) = (opened, 0, 0);
+    let (mut workspace, mut volume) = (Workspace::default(), Volume::start(tally, random, opened.total));
+    let (mut balance, mut sources, mut accepted, mut full_books) = (opened, 0, 0, 0);
     while accepted < steps {
-        let mut call = good_call(random, &kept, balance);
+        if random.chance(exchanges) {
+            volume = Volume::other(tally, random, balance.total);
+        }
+        let mut call = good_call(random, &kept, balance, volume.lent.clone());
         let broken = random.chance(25);
         if broken && random.chance(10) {
             miss_total(random, &mut call);
         } else if broken {
             break_step(random, &mut call);
         }
-        // A call that was broken in its record or its kept masses and is accepted nevertheless is none of this run.
-        let belongs = call.balance == balance && call.kept == kept;
+        // A call that was broken in its record, its kept masses or its book and is accepted nevertheless is none of this run.
+        let belongs = call.balance == balance && call.kept == kept && call.book == volume.lent;
         let (mine, theirs) = compare_step(tally, &mut workspace, &call);
+        let full = belongs && volume.is_full();
         if theirs.returned != 0 {
-            if !broken || theirs.kept != call.kept {
+            let wanted = broken || (full && theirs.returned == 21);
+            if !wanted || theirs.kept != call.kept || theirs.book != call.book {
                 tally.difference(format!("refused step {call:?}: {theirs:?}"));
             }
+            if full && theirs.returned == 21 {
+                full_books += 1;
+                volume = volume.replacement(tally, random);
+            }
+        } else if full {
+            tally.difference(format!("accepted {call:?}: its book is full"));
         } else if belongs && mine == theirs {
             accepted += 1;
             sources += i64::from(call.source);
@@ -117,7 +133,11 @@ pub fn run(tally: &mut Tally, random: &mut Random, cells: usize, steps: u64) {
             if (call.balance.scale, call.scale) != (opened.scale, opened.scale) {
                 tally.difference(format!("accepted {call:?}: opened at scale {}", opened.scale));
             }
+            volume.take_over(tally, &call, &theirs.kept, &theirs.answer, theirs.book);
             (kept, balance.total) = (theirs.kept, theirs.answer[1] as u32);
         }
     }
+    volume.check(tally);
+    println!("run of {cells} cells, full books: {full_books}");
+    tally.must_occur(&format!("run of {cells} cells: a full book"), full_books);
 }

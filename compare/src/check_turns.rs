@@ -4,7 +4,7 @@
 use crate::check_calls::make_scale;
 use crate::check_families::{any_from, any_list, any_step, make_family, note_cap, single_calls, too_wide, Call, Exit, Kind};
 use crate::families::{Member, MEMBERS};
-use crate::from_c::{read_family, FROM_ENTRY, NOBODY, WAITING_ENTRY};
+use crate::from_c::{read_family, FROM_ENTRY, NOBODY, TURN_ENTRIES, WAITING_ENTRY};
 use crate::random::{self, Random};
 use crate::tally::{Occurrences, Tally};
 
@@ -65,7 +65,7 @@ fn make_waiting(random: &mut Random) -> Call {
 /// A turn that is mostly lent what a step of the next in turn needs; sometimes anybody is next, or nobody.
 fn make_turn(random: &mut Random) -> Call {
     let (mut family, member, mut step) = any_step(random);
-    let length = 6 + random.pick(&[0, 0, 0, 1, 4]);
+    let length = TURN_ENTRIES + random.pick(&[0, 0, 0, 1, 4]);
     step.answer = any_list(random, length);
     match random.below(10) {
         0 => set_turns(&mut family, (0, any_from(random))),

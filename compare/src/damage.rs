@@ -44,7 +44,7 @@ fn some_block(random: &mut Random, file: &[u8]) -> usize {
 }
 
 /// Flips a bit of the file, with or without new check words.
-fn flip(random: &mut Random, file: &mut [u8], new_checks: bool) {
+pub fn flip(random: &mut Random, file: &mut [u8], new_checks: bool) {
     let index = some_block(random, file);
     if let Some(block) = whole_block(file, index) {
         block[random.index(BLOCK)] ^= 1 << random.below(8);
@@ -72,7 +72,7 @@ fn change_word(random: &mut Random, file: &mut [u8], contents: &Contents) {
 
 /// Swaps two words of a block, which leaves the first check word as it is, or moves one unit from word to word; with or without new check
 /// words.
-fn mix_words(random: &mut Random, file: &mut [u8], new_checks: bool) {
+pub fn mix_words(random: &mut Random, file: &mut [u8], new_checks: bool) {
     let (one, other) = (random.index(128), random.index(128));
     let swap = random.chance(50);
     let index = some_block(random, file);
@@ -92,7 +92,7 @@ fn mix_words(random: &mut Random, file: &mut [u8], new_checks: bool) {
 }
 
 /// Swaps two blocks, with or without new numbers and check words.
-fn swap_blocks(random: &mut Random, file: &mut [u8], new_checks: bool) {
+pub fn swap_blocks(random: &mut Random, file: &mut [u8], new_checks: bool) {
     let (one, other) = (some_block(random, file), some_block(random, file));
     if file.len() < BLOCK || one == other {
         return;

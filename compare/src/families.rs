@@ -1,8 +1,10 @@
 //! Families of kept fields with a cap on the sum of their totals, and their turns, with all that their operations turn down, after tickets
-//! 10 and 11 of 02. Checks stand in the tickets' order. Written from the papers alone; shares no code with the library.
+//! 10, 11 and 12 of 02. Checks stand in the tickets' order. Written from the papers alone; shares no code with the library.
 
-use crate::operations::{check_cells, check_scale, check_step, opening_total, refuse, repair_to, Balance, Refusal, SCRATCH_PER_NODE};
-use crate::tree::{Lists, Repair, Workspace};
+use crate::book::LentBook;
+use crate::operations::SCRATCH_PER_NODE;
+use crate::operations::{check_cells, check_scale, check_step, finish_step, opening_total, refuse, Balance, Refusal, Stepped};
+use crate::tree::{Lists, Workspace};
 
 pub const MEMBERS: usize = 8;
 
@@ -84,7 +86,7 @@ pub fn open_member(family: &mut Family, member: u32, kept: &[u32], scale: u32) -
     Ok(Balance { total, scale })
 }
 
-/// A refused call leaves the family as it was. The new total is the repair's.
+/// A refused call leaves the family as it was. The new total is that of the balance.
 #[allow(clippy::too_many_arguments)] // Step's, with the family and the member for the balance
 pub fn step_member(
     workspace: &mut Workspace,
@@ -95,17 +97,18 @@ pub fn step_member(
     scale: u32,
     lists: &Lists,
     scratch: &mut [i64],
-) -> Result<Repair, Refusal> {
+    book: LentBook,
+) -> Result<Stepped, Refusal> {
     let index = check_member(family, member, true)?;
     check_family_cells(family, lists.targets.len())?;
     let balance = Balance { total: family.members[index].total, scale: family.scale };
-    let total = check_step::<SCRATCH_PER_NODE>(workspace, balance, kept, source, scale, lists, scratch)?;
+    let total = check_step::<SCRATCH_PER_NODE>(workspace, balance, kept, source, scale, lists, scratch, &book)?;
     if source > 0 {
         check_cap(family, index, total)?;
     }
-    let repair = repair_to::<SCRATCH_PER_NODE>(workspace, lists, total, kept, scratch)?;
+    let stepped = finish_step::<SCRATCH_PER_NODE>(workspace, balance, kept, source, total, lists, scratch, book)?;
     family.members[index].total = total;
-    Ok(repair)
+    Ok(stepped)
 }
 
 /// Registering a member twice counts once.
@@ -129,10 +132,11 @@ pub fn waiting_count(family: &Family) -> u32 {
 #[derive(Clone, Copy, Debug, PartialEq)]
 pub enum Turned {
     Idle,
-    Served { member: usize, stepped: Result<Repair, Refusal> },
+    Served { member: usize, stepped: Result<Stepped, Refusal> },
 }
 
 /// An idle turn changes nothing. A refused step changes who waits and who is next, and nothing else.
+#[allow(clippy::too_many_arguments)] // Step's, with the family for the balance
 pub fn turn(
     workspace: &mut Workspace,
     family: &mut Family,
@@ -141,11 +145,12 @@ pub fn turn(
     scale: u32,
     lists: &Lists,
     scratch: &mut [i64],
+    book: LentBook,
 ) -> Turned {
     let Some(member) = next_member(family) else {
         return Turned::Idle;
     };
-    let stepped = step_member(workspace, family, member as u32, kept, source, scale, lists, scratch);
+    let stepped = step_member(workspace, family, member as u32, kept, source, scale, lists, scratch, book);
     family.waiting &= !(1 << member);
     family.from = ((member + 1) % MEMBERS) as u32;
     Turned::Served { member, stepped }

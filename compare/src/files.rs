@@ -14,10 +14,12 @@ const PAYLOAD: usize = 125;
 /// The first payload word of block 1.
 const MARK: u32 = 512;
 
+#[inline]
 pub fn word(block: &[u8], index: usize) -> u32 {
     u32::from_le_bytes([block[4 * index], block[4 * index + 1], block[4 * index + 2], block[4 * index + 3]])
 }
 
+#[inline]
 pub fn set_word(block: &mut [u8], index: usize, value: u32) {
     block[4 * index..4 * index + 4].copy_from_slice(&value.to_le_bytes());
 }
@@ -40,11 +42,11 @@ pub fn set_check_words(block: &mut [u8]) {
 }
 
 /// Block `number` of a file, counted from 1.
-fn block(file: &[u8], number: usize) -> &[u8] {
+pub fn block(file: &[u8], number: usize) -> &[u8] {
     &file[(number - 1) * BLOCK..number * BLOCK]
 }
 
-fn block_mut(file: &mut [u8], number: usize) -> &mut [u8] {
+pub fn block_mut(file: &mut [u8], number: usize) -> &mut [u8] {
     &mut file[(number - 1) * BLOCK..number * BLOCK]
 }
 
@@ -55,7 +57,7 @@ pub fn payload(file: &[u8], number: usize) -> &[u8] {
 }
 
 /// Refusal 15: a block's number and check words.
-fn check_block(file: &[u8], number: usize) -> Result<(), Refusal> {
+pub fn check_block(file: &[u8], number: usize) -> Result<(), Refusal> {
     let block = block(file, number);
     if word(block, 0) as usize != number || check_words(block) != (word(block, 126), word(block, 127)) {
         return refuse_at(15, number);

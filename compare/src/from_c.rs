@@ -1,10 +1,11 @@
 //! The operations as `legzhuro.h` tells of its calls: what an operation gives goes to a lent list, a list too short for it counts under 3,
 //! and number and place come back in one value. Shares no code with the library.
 
+use crate::book::{self, Book, Budget, LentBook};
 use crate::families::{self, check_family_cells, check_member, Family, Member, Turned, MEMBERS};
 use crate::files::{check_answer_header, AnswerHeader};
-use crate::operations::{check_cells, check_counts, refuse, Balance, Refusal};
-use crate::tree::{Lists, Repair, Workspace};
+use crate::operations::{check_cells, check_counts, refuse, Balance, Refusal, Stepped};
+use crate::tree::{Lists, Workspace};
 use crate::{doubles, files, operations};
 
 /// The value returned: the number in the low 32 bits, the place in the high 32.
@@ -51,9 +52,12 @@ pub fn open(kept: &[u32], scale: u32, answer: &mut [u64]) -> Result<(), Refusal>
     Ok(())
 }
 
-/// What is told of a step: outcome, new total, change and the sum shared out.
-fn step_values(repair: Repair) -> [u64; 4] {
-    [u64::from(repair.outcome), u64::from(repair.total), repair.change, repair.shared]
+/// The entries of a step's answer.
+pub const STEP_ENTRIES: usize = 5;
+
+/// What is told of a step: outcome, new total, change, the sum shared out and the book's new length.
+fn step_values(Stepped { repair, length, .. }: Stepped) -> [u64; STEP_ENTRIES] {
+    [u64::from(repair.outcome), u64::from(repair.total), repair.change, repair.shared, length as u64]
 }
 
 /// Step with `PER_NODE` scratch numbers for each node. The answer's length is checked with the other lengths, after 1 and 2. Of the new
@@ -67,12 +71,13 @@ pub fn step_by<const PER_NODE: usize>(
     scale: u32,
     lists: &Lists,
     scratch: &mut [i64],
+    book: LentBook,
     answer: &mut [u64],
 ) -> Result<(), Refusal> {
     check_counts(lists.targets.len(), lists.parents.len())?;
-    check_length(answer, 4)?;
-    let (repair, _) = operations::step_by::<PER_NODE>(workspace, balance, kept, source, scale, lists, scratch)?;
-    answer[..4].copy_from_slice(&step_values(repair));
+    check_length(answer, STEP_ENTRIES)?;
+    let stepped = operations::step_by::<PER_NODE>(workspace, balance, kept, source, scale, lists, scratch, book)?;
+    answer[..STEP_ENTRIES].copy_from_slice(&step_values(stepped));
     Ok(())
 }
 
@@ -141,6 +146,7 @@ pub fn family_step(
     scale: u32,
     lists: &Lists,
     scratch: &mut [i64],
+    book: LentBook,
     answer: &mut [u64],
 ) -> Result<(), Refusal> {
     check_length(list, FAMILY_ENTRIES)?;
@@ -148,10 +154,10 @@ pub fn family_step(
     check_member(&family, member, true)?;
     check_family_cells(&family, lists.targets.len())?;
     check_counts(lists.targets.len(), lists.parents.len())?;
-    check_length(answer, 4)?;
-    let repair = families::step_member(workspace, &mut family, member, kept, source, scale, lists, scratch)?;
+    check_length(answer, STEP_ENTRIES)?;
+    let stepped = families::step_member(workspace, &mut family, member, kept, source, scale, lists, scratch, book)?;
     write_family(&family, list);
-    answer[..4].copy_from_slice(&step_values(repair));
+    answer[..STEP_ENTRIES].copy_from_slice(&step_values(stepped));
     Ok(())
 }
 
@@ -177,14 +183,20 @@ pub fn family_waiting(list: &[u64], answer: &mut [u64]) -> Result<(), Refusal> {
     Ok(())
 }
 
+/// The entries of a turn's answer.
+pub const TURN_ENTRIES: usize = 2 + STEP_ENTRIES;
+
 /// What is told of a turn: the member, what its step returned, and what is told of the step if it was accepted.
-fn turn_values(turned: Turned) -> [u64; 6] {
-    let (member, stepped) = match turned {
-        Turned::Idle => return [NOBODY, 0, 0, 0, 0, 0],
-        Turned::Served { member, stepped } => (member as u64, stepped),
-    };
-    let [outcome, total, change, shared] = stepped.map_or([0; 4], step_values);
-    [member, returned(stepped.map(|_| ())), outcome, total, change, shared]
+fn turn_values(turned: Turned) -> [u64; TURN_ENTRIES] {
+    let mut values = [0; TURN_ENTRIES];
+    match turned {
+        Turned::Idle => values[0] = NOBODY,
+        Turned::Served { member, stepped } => {
+            (values[0], values[1]) = (member as u64, returned(stepped.map(|_| ())));
+            values[2..].copy_from_slice(&stepped.map_or([0; STEP_ENTRIES], step_values));
+        }
+    }
+    values
 }
 
 /// Both lengths are checked before all else. An idle turn writes to no list but the answer.
@@ -197,16 +209,37 @@ pub fn family_turn(
     scale: u32,
     lists: &Lists,
     scratch: &mut [i64],
+    book: LentBook,
     answer: &mut [u64],
 ) -> Result<(), Refusal> {
     check_length(list, FAMILY_ENTRIES)?;
-    check_length(answer, 6)?;
+    check_length(answer, TURN_ENTRIES)?;
     let mut family = read_family(list);
-    let turned = families::turn(workspace, &mut family, kept, source, scale, lists, scratch);
+    let turned = families::turn(workspace, &mut family, kept, source, scale, lists, scratch, book);
     if turned != Turned::Idle {
         write_family(&family, list);
     }
-    answer[..6].copy_from_slice(&turn_values(turned));
+    answer[..TURN_ENTRIES].copy_from_slice(&turn_values(turned));
+    Ok(())
+}
+
+/// Both lengths are checked before all else.
+pub fn book_start(total: u32, buffer: &mut [u8], answer: &mut [u64]) -> Result<(), Refusal> {
+    check_length(answer, 1)?;
+    answer[0] = book::start_book(total, buffer)? as u64;
+    Ok(())
+}
+
+/// What is told of a book: opening, in, out and closing.
+pub fn budget_values(budget: Budget) -> [u64; 4] {
+    [u64::from(budget.opening), budget.inflow, budget.outflow, u64::from(budget.closing)]
+}
+
+/// The answer's length is checked before all else.
+pub fn book_report(file: &[u8], answer: &mut [u64]) -> Result<(), Refusal> {
+    check_length(answer, 4)?;
+    let budget = Book::read(file)?.budget();
+    answer[..4].copy_from_slice(&budget_values(budget));
     Ok(())
 }
 

@@ -1,11 +1,14 @@
-//! A second implementation of the paper 01 and of tickets 1 to 11 of 02 (`split`, `tree`, `operations`, `doubles`, `files`, `listing`,
-//! `query`, `ratios`, `families`), written from the papers alone and sharing no code with the proved library; the files of the test
+//! A second implementation of the paper 01 and of tickets 1 to 12 of 02 (`split`, `tree`, `operations`, `doubles`, `files`, `listing`,
+//! `query`, `ratios`, `families`, `book`), written from the papers alone and sharing no code with the proved library; the files of the test
 //! programs (`program`, `numbers`, `query_cases`); and, with the feature `library`, what compares the library with it: the calls from C
-//! (`calls`, and `from_c` for the second implementation's side), inputs (`random`, `damage`), and the checks that the comparison program
+//! (`calls`, and `from_c` for the second implementation's side), inputs (`random`, `random_books`, `damage`), and the checks that the comparison program
 //! runs (`tally`, `shared` and `check_...`).
 
+pub mod book;
 #[cfg(feature = "library")]
 pub mod calls;
+#[cfg(feature = "library")]
+pub mod check_books;
 #[cfg(feature = "library")]
 pub mod check_bounds;
 #[cfg(feature = "library")]
@@ -38,6 +41,7 @@ pub mod program;
 pub mod query;
 pub mod query_cases;
 pub mod random;
+pub mod random_books;
 pub mod ratios;
 #[cfg(feature = "library")]
 pub mod shared;

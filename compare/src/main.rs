@@ -5,17 +5,18 @@
 
 use compare::random::Random;
 use compare::tally::Tally;
-use compare::{check_bounds, check_calls, check_examples, check_families, check_files, check_histories, check_published, check_query};
-use compare::{check_run, check_turns};
+use compare::{check_books, check_bounds, check_calls, check_examples, check_families, check_files, check_histories, check_published};
+use compare::{check_query, check_run, check_turns};
 use std::path::Path;
 
 const SEED: u64 = 20190525;
 
-// The refusals that a call can give, after the section "Operations and what each turns down" of 01 and tickets 1, 2 and 5 to 11 of 02, in
+// The refusals that a call can give, after the section "Operations and what each turns down" of 01 and tickets 1, 2 and 5 to 12 of 02, in
 // its order of checks. From C a list that is too short for what a call gives counts under 3.
 const SPLIT: [usize; 6] = [1, 3, 5, 6, 7, 8];
 const OPEN: [usize; 4] = [3, 1, 9, 13];
-const STEP: [usize; 11] = [1, 2, 3, 17, 4, 5, 6, 7, 12, 13, 8];
+// 12 comes for the kept masses, and again for the book.
+const STEP: [usize; 15] = [1, 2, 3, 17, 4, 5, 6, 7, 12, 13, 8, 14, 15, 16, 21];
 const IMPORT: [usize; 4] = [3, 9, 10, 11];
 // In binary32 too.
 const EXPORT: [usize; 3] = [3, 9, 11];
@@ -44,14 +45,18 @@ const CONSISTENCY: [usize; 1] = [8];
 const FAMILY_START: [usize; 3] = [3, 1, 9];
 const FAMILY_OPEN: [usize; 7] = [3, 19, 1, 9, 17, 13, 20];
 // 3 comes first for the list of the family, and after 2 for the other lists.
-const FAMILY_STEP: [usize; 13] = [3, 19, 1, 2, 17, 4, 5, 6, 7, 12, 13, 20, 8];
+const FAMILY_STEP: [usize; 17] = [3, 19, 1, 2, 17, 4, 5, 6, 7, 12, 13, 20, 8, 14, 15, 16, 21];
 const FAMILY_REGISTER: [usize; 2] = [3, 19];
 // The next in turn, and the number waiting.
 const FAMILY_READ: [usize; 1] = [3];
 // 3 comes first for the lists of the family and of the answer; then what the step is refused with.
-const FAMILY_TURN: [usize; 13] = FAMILY_STEP;
+const FAMILY_TURN: [usize; 17] = FAMILY_STEP;
 // All calls but starts.
-const FAMILY: [usize; 14] = [3, 19, 1, 2, 9, 17, 4, 5, 6, 7, 12, 13, 20, 8];
+const FAMILY: [usize; 18] = [3, 19, 1, 2, 9, 17, 4, 5, 6, 7, 12, 13, 20, 8, 14, 15, 16, 21];
+const BOOK_START: [usize; 2] = [3, 13];
+const BOOK_REPORT: [usize; 5] = [3, 14, 15, 16, 12];
+// The program has a buffer that is long enough.
+const BOOK_PROGRAM: [usize; 4] = [14, 15, 16, 12];
 
 const OUTCOMES: [usize; 3] = [0, 1, 2];
 
@@ -82,8 +87,9 @@ fn main() {
     tally.end_part("file", &FILE, &OUTCOMES);
     check_files::listings(&mut tally, &mut random, &programs.join("legzhuro"), scaled(4_000));
     tally.end_part("program", &PROGRAM, &OUTCOMES);
-    for (cells, steps) in [(24, check_run::FOUR_YEARS), (512, 10_000)] {
-        check_run::run(&mut tally, &mut random, cells, scaled(steps));
+    // In the last run the book is exchanged for another now and then.
+    for (cells, steps, exchanges) in [(24, check_run::FOUR_YEARS, 0), (512, 10_000, 0), (3, 12_000, 2)] {
+        check_run::run(&mut tally, &mut random, cells, scaled(steps), exchanges);
         tally.end_part(&format!("run of {cells} cells"), &STEP, &OUTCOMES);
     }
     check_published::published(&mut tally, &mut random, scaled(100_000));
@@ -127,6 +133,14 @@ fn main() {
         check_histories::histories(&mut tally, &mut random, cells, histories, scaled(calls));
         tally.end_part(&format!("families of {cells} cells"), &FAMILY, &OUTCOMES);
     }
+    check_books::starts(&mut tally, &mut random, scaled(30_000));
+    tally.end_part("book start", &BOOK_START, &[]);
+    check_books::steps(&mut tally, &mut random, scaled(40_000));
+    tally.end_part("book step", &STEP, &OUTCOMES);
+    check_books::reports(&mut tally, &mut random, scaled(60_000));
+    tally.end_part("book report", &BOOK_REPORT, &[]);
+    check_books::printed_reports(&mut tally, &mut random, &programs.join("legzhuro_book"), scaled(4_000));
+    tally.end_part("book program", &BOOK_PROGRAM, &[]);
 
     if !tally.passes() {
         std::process::exit(1);

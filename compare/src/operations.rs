@@ -1,6 +1,7 @@
 //! Split, Reconstruct, Open and Step with all that they turn down, after the section "Operations and what each turns down" of 01 and
-//! tickets 2, 7 and 9 of 02. Checks stand in the papers' order. Written from the papers alone; shares no code with the library.
+//! tickets 2, 7, 9 and 12 of 02. Checks stand in the papers' order. Written from the papers alone; shares no code with the library.
 
+use crate::book::{check_room, LentBook, Record};
 use crate::split::{share_out, Item};
 use crate::tree::{broken_node, repair, sum, Lists, Repair, Workspace};
 
@@ -138,21 +139,21 @@ pub fn reconstruct(
     check_counts(lists.targets.len(), lists.parents.len())?;
     check_lengths(lists, masses.len(), scratch.len(), SCRATCH_PER_NODE)?;
     check_field(workspace, lists)?;
-    repair_to::<SCRATCH_PER_NODE>(workspace, lists, total, masses, scratch)
+    check_total(lists, total)?;
+    Ok(repair_to::<SCRATCH_PER_NODE>(workspace, lists, total, masses, scratch))
 }
 
-/// Check 8, and then what Reconstruct and Step do, for lists that have passed every other check.
-pub fn repair_to<const PER_NODE: usize>(
+/// What Reconstruct and Step do with masses and scratch, for lists and a total that have passed every check.
+fn repair_to<const PER_NODE: usize>(
     workspace: &mut Workspace,
     lists: &Lists,
     total: u32,
     masses: &mut [u32],
     scratch: &mut [i64],
-) -> Result<Repair, Refusal> {
-    check_total(lists, total)?;
+) -> Repair {
     let repair = repair(workspace, lists, total, masses);
     scratch[..PER_NODE * lists.parents.len()].fill(0);
-    Ok(repair)
+    repair
 }
 
 /// The record of a kept field.
@@ -185,7 +186,17 @@ fn check_step_scale(balance: Balance, scale: u32) -> Result<(), Refusal> {
     Ok(())
 }
 
-/// Returns the repair and the new record.
+/// What an accepted step gives.
+#[derive(Clone, Copy, Debug, PartialEq)]
+pub struct Stepped {
+    pub repair: Repair,
+    /// The new record of the kept field.
+    pub balance: Balance,
+    /// The new length of the book.
+    pub length: usize,
+}
+
+#[allow(clippy::too_many_arguments)] // those of the ticket, and the workspace
 pub fn step(
     workspace: &mut Workspace,
     balance: Balance,
@@ -194,11 +205,13 @@ pub fn step(
     scale: u32,
     lists: &Lists,
     scratch: &mut [i64],
-) -> Result<(Repair, Balance), Refusal> {
-    step_by::<SCRATCH_PER_NODE>(workspace, balance, kept, source, scale, lists, scratch)
+    book: LentBook,
+) -> Result<Stepped, Refusal> {
+    step_by::<SCRATCH_PER_NODE>(workspace, balance, kept, source, scale, lists, scratch, book)
 }
 
 /// Step with `PER_NODE` scratch numbers for each node, so that the version before ticket 9 can be run too.
+#[allow(clippy::too_many_arguments)] // those of Step
 pub fn step_by<const PER_NODE: usize>(
     workspace: &mut Workspace,
     balance: Balance,
@@ -207,13 +220,14 @@ pub fn step_by<const PER_NODE: usize>(
     scale: u32,
     lists: &Lists,
     scratch: &mut [i64],
-) -> Result<(Repair, Balance), Refusal> {
-    let total = check_step::<PER_NODE>(workspace, balance, kept, source, scale, lists, scratch)?;
-    let repair = repair_to::<PER_NODE>(workspace, lists, total, kept, scratch)?;
-    Ok((repair, Balance { total, scale: balance.scale }))
+    book: LentBook,
+) -> Result<Stepped, Refusal> {
+    let total = check_step::<PER_NODE>(workspace, balance, kept, source, scale, lists, scratch, &book)?;
+    finish_step::<PER_NODE>(workspace, balance, kept, source, total, lists, scratch, book)
 }
 
-/// Step's checks up to 13: all but its last, 8. Returns the new total.
+/// Step's checks up to 13: all but 8 and those of the book. Returns the new total.
+#[allow(clippy::too_many_arguments)] // those of Step
 pub fn check_step<const PER_NODE: usize>(
     workspace: &mut Workspace,
     balance: Balance,
@@ -222,9 +236,11 @@ pub fn check_step<const PER_NODE: usize>(
     scale: u32,
     lists: &Lists,
     scratch: &[i64],
+    book: &LentBook,
 ) -> Result<u32, Refusal> {
     check_counts(lists.targets.len(), lists.parents.len())?;
     check_lengths(lists, kept.len(), scratch.len(), PER_NODE)?;
+    check_room(book.buffer)?;
     check_step_scale(balance, scale)?;
     check_field(workspace, lists)?;
     if sum(kept) != u64::from(balance.total) {
@@ -235,4 +251,23 @@ pub fn check_step<const PER_NODE: usize>(
         return refuse(13);
     }
     Ok(total as u32)
+}
+
+/// The checks after those, and then what Step does. `total` is the new total.
+#[allow(clippy::too_many_arguments)] // those of Step
+pub fn finish_step<const PER_NODE: usize>(
+    workspace: &mut Workspace,
+    balance: Balance,
+    kept: &mut [u32],
+    source: i32,
+    total: u32,
+    lists: &Lists,
+    scratch: &mut [i64],
+    book: LentBook,
+) -> Result<Stepped, Refusal> {
+    check_total(lists, total)?;
+    let mut read = book.check(balance.total)?;
+    let repair = repair_to::<PER_NODE>(workspace, lists, total, kept, scratch);
+    let length = read.add(Record { source, outcome: repair.outcome, total }, book.buffer);
+    Ok(Stepped { repair, balance: Balance { total, ..balance }, length })
 }

@@ -44,6 +44,16 @@ impl Random {
     }
 }
 
+/// Any bytes.
+pub fn bytes(random: &mut Random, length: usize) -> Vec<u8> {
+    let mut bytes = Vec::with_capacity(length + 7);
+    while bytes.len() < length {
+        bytes.extend_from_slice(&random.bits().to_le_bytes());
+    }
+    bytes.truncate(length);
+    bytes
+}
+
 // ---- trees ----
 
 /// One root above all cells.

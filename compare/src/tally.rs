@@ -8,7 +8,7 @@ use std::time::Instant;
 const ENOUGH: u64 = 20;
 
 /// Refusal numbers go from 1 to this.
-const LAST_NUMBER: usize = 20;
+const LAST_NUMBER: usize = 21;
 
 pub struct Tally {
     started: Instant,

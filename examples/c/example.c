@@ -1,7 +1,8 @@
-/* Opens a kept field, steps it four times (the second step is refused for its total, the third for its scale), makes bounds from mixing ratios
- * (at first with a ratio that is refused) and steps the field with them, steps two tracers under one cap (a step that would pass the cap is
- * refused), imports a cell's doubles, exports a mass as a double and one as a binary32, writes the field as a file and repairs that file, and
- * repairs the file named. Usage: example FIELD_FILE. The status is 0 if both were repaired, else 1. */
+/* Opens a kept field, starts its source book, steps it four times (the second step is refused for its total, the third for its scale), makes
+ * bounds from mixing ratios (at first with a ratio that is refused) and steps the field with them, reports its book, steps two tracers under one
+ * cap (a step that would pass the cap is refused), each with a book of its own, imports a cell's doubles, exports a mass as a double and one as a
+ * binary32, writes the field as a file and repairs that file, and repairs the file named. Usage: example FIELD_FILE. The status is 0 if both were
+ * repaired, else 1. */
 #include <inttypes.h>
 #include <stdio.h>
 
@@ -45,17 +46,47 @@ static int open_field(const uint32_t *kept, uint32_t scale, uint64_t *balance) {
     return 0;
 }
 
-static int step(uint64_t *balance, uint32_t *kept, int32_t source, uint32_t scale, const struct bounds *bounds) {
-    static int64_t scratch[LEGZHURO_SCRATCH * NODES];
+/* The book of a kept field: its bytes, and how many of them it has. */
+struct book {
+    uint8_t bytes[LEGZHURO_BOOK];
+    size_t length;
+};
+
+/* A book that opens with the total standing. The same replaces a book that is full, when a step is refused with 21. */
+static int start_book(struct book *book, uint64_t total) {
+    uint64_t answer[1];
+
+    printf("book:");
+    uint64_t returned = legzhuro_book_start((uint32_t)total, book->bytes, LEGZHURO_BOOK, answer, 1);
+    if (returned != 0) return refused(returned);
+    book->length = (size_t)answer[0];
+    printf(" length %" PRIu64 "\n", answer[0]);
+    return 0;
+}
+
+static int report_book(const struct book *book) {
     uint64_t answer[4];
+
+    printf("book:");
+    uint64_t returned = legzhuro_book_report(book->bytes, book->length, answer, 4);
+    if (returned != 0) return refused(returned);
+    printf(" opening %" PRIu64 " in %" PRIu64 " out %" PRIu64 " closing %" PRIu64 " length %zu\n", answer[0], answer[1], answer[2], answer[3],
+           book->length);
+    return 0;
+}
+
+static int step(uint64_t *balance, uint32_t *kept, struct book *book, int32_t source, uint32_t scale, const struct bounds *bounds) {
+    static int64_t scratch[LEGZHURO_SCRATCH * NODES];
+    uint64_t answer[5];
 
     printf("step %" PRId32 " at scale %" PRIu32 ":", source, scale);
     uint64_t returned =
         legzhuro_step((uint32_t)balance[0], (uint32_t)balance[1], kept, CELLS, source, scale, targets, CELLS, bounds->lows, CELLS,
                       bounds->highs, CELLS, bounds->safe_lows, CELLS, bounds->safe_highs, CELLS, weights, CELLS, parents, NODES, scratch,
-                      LEGZHURO_SCRATCH * NODES, answer, 4);
+                      LEGZHURO_SCRATCH * NODES, book->bytes, LEGZHURO_BOOK, book->length, answer, 5);
     if (returned != 0) return refused(returned);
     balance[0] = answer[1];
+    book->length = (size_t)answer[4];
     printf(" outcome %" PRIu64 " total %" PRIu64 " change %" PRIu64 " shared %" PRIu64, answer[0], answer[1], answer[2], answer[3]);
     print_masses(kept, CELLS);
     return 0;
@@ -79,22 +110,24 @@ static int make_bounds(uint32_t high_ratio, struct bounds *bounds) {
 }
 
 /* With all ratios equal and each product whole, every mass is air times ratio, whatever the targets. */
-static int step_by_ratios(uint64_t *balance, uint32_t *kept) {
+static int step_by_ratios(uint64_t *balance, uint32_t *kept, struct book *book) {
     struct bounds bounds;
 
     make_bounds(LEGZHURO_RATIO + 1, &bounds);
     if (make_bounds(LEGZHURO_RATIO / 4, &bounds) != 0) return 1;
-    return step(balance, kept, 3, 1, &bounds);
+    return step(balance, kept, book, 3, 1, &bounds);
 }
 
-/* Two tracers over the same cells: the list of the family, and the kept masses of each. */
+/* Two tracers over the same cells: the list of the family, and of each tracer the kept masses and the book. */
 #define TRACERS 2
 
 struct tracers {
     uint64_t family[LEGZHURO_FAMILY];
     uint32_t kept[TRACERS][CELLS];
+    struct book books[TRACERS];
 };
 
+/* A tracer is opened, and its book started from its total. */
 static int open_tracer(struct tracers *tracers, uint32_t member, uint32_t scale) {
     uint64_t answer[2];
 
@@ -102,7 +135,8 @@ static int open_tracer(struct tracers *tracers, uint32_t member, uint32_t scale)
     uint64_t returned = legzhuro_family_open(tracers->family, LEGZHURO_FAMILY, member, tracers->kept[member], CELLS, scale, answer, 2);
     if (returned != 0) return refused(returned);
     printf(" total %" PRIu64 " scale %" PRIu64 "\n", answer[0], answer[1]);
-    return 0;
+    printf("tracer %" PRIu32 " ", member);
+    return start_book(&tracers->books[member], answer[0]);
 }
 
 /* A tracer that has a step to make waits for its turn. */
@@ -117,19 +151,21 @@ static int register_tracer(struct tracers *tracers, uint32_t member) {
     return 0;
 }
 
-/* A turn, with a source for each tracer: the next one is lent its own masses. */
+/* A turn, with a source for each tracer: the next one is lent its own masses and its own book. */
 static int turn(struct tracers *tracers, const int32_t sources[TRACERS], uint32_t scale) {
     static int64_t scratch[LEGZHURO_SCRATCH * NODES];
     const struct bounds *bounds = &field_bounds;
-    uint64_t next[1], answer[6];
+    uint64_t next[1], answer[7];
 
     uint64_t returned = legzhuro_family_next(tracers->family, LEGZHURO_FAMILY, next, 1);
     if (returned != 0) return refused(returned);
     uint64_t member = next[0] == LEGZHURO_NOBODY ? 0 : next[0]; /* with nobody waiting nothing is written, whatever is lent */
+    struct book *book = &tracers->books[member];
     printf("turn:");
     returned = legzhuro_family_turn(tracers->family, LEGZHURO_FAMILY, tracers->kept[member], CELLS, sources[member], scale, targets, CELLS,
                                     bounds->lows, CELLS, bounds->highs, CELLS, bounds->safe_lows, CELLS, bounds->safe_highs, CELLS, weights,
-                                    CELLS, parents, NODES, scratch, LEGZHURO_SCRATCH * NODES, answer, 6);
+                                    CELLS, parents, NODES, scratch, LEGZHURO_SCRATCH * NODES, book->bytes, LEGZHURO_BOOK, book->length,
+                                    answer, 7);
     if (returned != 0) return refused(returned);
     if (answer[0] == LEGZHURO_NOBODY) {
         printf(" idle\n");
@@ -137,6 +173,7 @@ static int turn(struct tracers *tracers, const int32_t sources[TRACERS], uint32_
     }
     printf(" tracer %" PRIu64 " step %" PRId32 ":", answer[0], sources[member]);
     if (answer[1] != 0) return refused(answer[1]);
+    book->length = (size_t)answer[6];
     printf(" outcome %" PRIu64 " total %" PRIu64 " change %" PRIu64 " shared %" PRIu64, answer[2], answer[3], answer[4], answer[5]);
     print_masses(tracers->kept[member], CELLS);
     return 0;
@@ -145,7 +182,7 @@ static int turn(struct tracers *tracers, const int32_t sources[TRACERS], uint32_
 /* A cap of 30 on both totals together, and a turn for each tracer that registers: tracer 0 is first, a source of 7 is too much for tracer 1, and
  * nobody waits any more; tracer 1 registers again with a source of 6. */
 static int step_tracers(void) {
-    struct tracers tracers = {{0}, {{1, 2, 3, 4}, {2, 2, 2, 2}}};
+    static struct tracers tracers = {.kept = {{1, 2, 3, 4}, {2, 2, 2, 2}}};
     const int32_t sources[TRACERS] = {6, 7}, less[TRACERS] = {6, 6};
 
     printf("family:");
@@ -156,7 +193,12 @@ static int step_tracers(void) {
     if (register_tracer(&tracers, 1) != 0 || register_tracer(&tracers, 0) != 0 || register_tracer(&tracers, 1) != 0) return 1;
     for (int i = 0; i <= TRACERS; i++) turn(&tracers, sources, 1);
     if (register_tracer(&tracers, 1) != 0) return 1;
-    return turn(&tracers, less, 1);
+    if (turn(&tracers, less, 1) != 0) return 1;
+    for (int i = 0; i < TRACERS; i++) {
+        printf("tracer %d ", i);
+        if (report_book(&tracers.books[i]) != 0) return 1;
+    }
+    return 0;
 }
 
 static int convert(void) {
@@ -215,6 +257,7 @@ static int repair_read(FILE *in) {
 }
 
 int main(int argc, char **argv) {
+    static struct book book;
     uint32_t kept[CELLS] = {1, 2, 3, 4};
     uint64_t balance[2];
 
@@ -223,12 +266,13 @@ int main(int argc, char **argv) {
         fprintf(stderr, "usage: example FIELD_FILE, a file that can be read\n");
         return 1;
     }
-    if (open_field(kept, 1, balance) != 0) return 1;
-    step(balance, kept, 6, 1, &field_bounds);
-    step(balance, kept, 100, 1, &field_bounds);
-    step(balance, kept, -9, 2, &field_bounds);
-    step(balance, kept, -9, 1, &field_bounds);
-    if (step_by_ratios(balance, kept) != 0 || step_tracers() != 0 || convert() != 0 || repair_written(16) != 0) return 1;
+    if (open_field(kept, 1, balance) != 0 || start_book(&book, balance[0]) != 0) return 1;
+    step(balance, kept, &book, 6, 1, &field_bounds);
+    step(balance, kept, &book, 100, 1, &field_bounds);
+    step(balance, kept, &book, -9, 2, &field_bounds);
+    step(balance, kept, &book, -9, 1, &field_bounds);
+    if (step_by_ratios(balance, kept, &book) != 0 || report_book(&book) != 0) return 1;
+    if (step_tracers() != 0 || convert() != 0 || repair_written(16) != 0) return 1;
     int status = repair_read(in);
     fclose(in);
     return status;

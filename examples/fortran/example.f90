@@ -1,7 +1,7 @@
-! Opens a kept field, steps it four times (the second step is refused for its total, the third for its scale), makes bounds from
-! mixing ratios (at first with a ratio that is refused) and steps the field with them, steps two tracers under one cap (a step that
-! would pass the cap is refused), exports the masses as doubles and as binary32 values, writes the field as a file and repairs that
-! file, and repairs the file named.
+! Opens a kept field, starts its source book, steps it four times (the second step is refused for its total, the third for its
+! scale), makes bounds from mixing ratios (at first with a ratio that is refused) and steps the field with them, reports its book,
+! steps two tracers under one cap (a step that would pass the cap is refused), each with a book of its own, exports the masses as
+! doubles and as binary32 values, writes the field as a file and repairs that file, and repairs the file named.
 ! Usage: example FIELD_FILE. To build it, after rt staticlib legzhuro_c:
 ! gfortran -Jtarget include/legzhuro.f90 examples/fortran/example.f90 target/staticlib/liblegzhuro_c.a -o target/example_fortran
 program example
@@ -15,12 +15,19 @@ program example
     integer(c_int32_t) :: lows(cells) = 0, highs(cells) = 8, safe_lows(cells) = 0, safe_highs(cells) = 10
     integer(c_int32_t) :: kept(cells) = [1, 2, 3, 4], total, total_scale
     integer(c_int64_t) :: answer(5), returned
+    ! The book of a kept field: its bytes, and how many of them it has.
+    type source_book
+        integer(c_int8_t) :: bytes(legzhuro_book)
+        integer(c_size_t) :: length
+    end type source_book
+    type(source_book) :: book
 
     returned = legzhuro_open(kept, cells, 1, answer, size(answer, kind=c_size_t))
     if (returned /= 0) error stop 'the kept field was refused'
     total = int(answer(1), c_int32_t)
     total_scale = int(answer(2), c_int32_t)
     print '(2(a, i0))', 'open: total ', total, ' scale ', total_scale
+    call start_book(book, total)
     call step(6, 1)
     call step(100, 1)
     call step(-9, 2)
@@ -29,6 +36,7 @@ program example
     call make_bounds(legzhuro_ratio + 1)
     call make_bounds(legzhuro_ratio/4)
     call step(3, 1)
+    call report_book('', book)
     call step_tracers()
     call export_masses(total_scale)
     call repair_read()
@@ -41,21 +49,47 @@ contains
 
         returned = legzhuro_step(total, total_scale, kept, cells, source, scale, targets, cells, lows, cells, highs, cells, &
                                  safe_lows, cells, safe_highs, cells, weights, cells, parents, nodes, scratch, &
-                                 size(scratch, kind=c_size_t), answer, size(answer, kind=c_size_t))
+                                 size(scratch, kind=c_size_t), book%bytes, size(book%bytes, kind=c_size_t), book%length, answer, &
+                                 size(answer, kind=c_size_t))
         if (returned /= 0) then
             print '(a, i0, 3(a, i0))', 'step ', source, ' at scale ', scale, ': refused ', legzhuro_number(returned), ' ', &
                 legzhuro_place(returned)
             return
         end if
         total = int(answer(2), c_int32_t)
+        book%length = int(answer(5), c_size_t)
         print '(a, i0, 5(a, i0), a, *(1x, i0))', 'step ', source, ' at scale ', scale, ': outcome ', answer(1), ' total ', &
             answer(2), ' change ', answer(3), ' shared ', answer(4), ' masses', kept
     end subroutine step
+
+    ! A book that opens with the total standing. The same replaces a book that is full, when a step is refused with 21.
+    subroutine start_book(book, total)
+        type(source_book), intent(inout) :: book
+        integer(c_int32_t), intent(in) :: total
+
+        returned = legzhuro_book_start(total, book%bytes, size(book%bytes, kind=c_size_t), answer, size(answer, kind=c_size_t))
+        if (returned /= 0) error stop 'the book was refused'
+        book%length = int(answer(1), c_size_t)
+    end subroutine start_book
+
+    subroutine report_book(name, book)
+        character(*), intent(in) :: name
+        type(source_book), intent(in) :: book
+
+        returned = legzhuro_book_report(book%bytes, book%length, answer, size(answer, kind=c_size_t))
+        if (returned /= 0) then
+            print '(2a, i0, a, i0)', name, 'book: refused ', legzhuro_number(returned), ' ', legzhuro_place(returned)
+            return
+        end if
+        print '(a, 5(a, i0))', name, 'book: opening ', answer(1), ' in ', answer(2), ' out ', answer(3), ' closing ', answer(4), &
+            ' length ', book%length
+    end subroutine report_book
 
     ! Two tracers over the same cells with the bounds made, under a cap of 21 on both totals together.
     subroutine step_tracers()
         integer(c_int64_t) :: family(legzhuro_family)
         integer(c_int32_t) :: tracers(cells, 0:1)
+        type(source_book), save :: books(0:1)
         integer(c_int32_t) :: member
 
         tracers(:, 0) = [2, 4, 1, 3]
@@ -67,8 +101,9 @@ contains
                                             size(answer, kind=c_size_t))
             if (returned /= 0) error stop 'a tracer was refused'
             print '(3(a, i0))', 'tracer ', member, ' open: total ', answer(1), ' scale ', answer(2)
+            call start_book(books(member), int(answer(1), c_int32_t))
         end do
-        call step_tracer(family, 1, tracers(:, 1), 3)
+        call step_tracer(family, 1, tracers(:, 1), books(1), 3)
         do member = 1, 0, -1
             returned = legzhuro_family_register(family, size(family, kind=c_size_t), member)
             if (returned /= 0) error stop 'a tracer was refused'
@@ -77,34 +112,42 @@ contains
             returned = legzhuro_family_next(family, size(family, kind=c_size_t), answer, size(answer, kind=c_size_t))
             if (returned /= 0) error stop 'the reading was refused'
             if (answer(1) == legzhuro_nobody) exit
-            call turn(family, tracers(:, answer(1)), 1)
+            call turn(family, tracers(:, answer(1)), books(answer(1)), 1)
         end do
+        call report_book('tracer 0 ', books(0))
+        call report_book('tracer 1 ', books(1))
     end subroutine step_tracers
 
-    subroutine step_tracer(family, member, masses, source)
+    subroutine step_tracer(family, member, masses, book, source)
         integer(c_int64_t), intent(inout) :: family(:)
         integer(c_int32_t), intent(in) :: member, source
         integer(c_int32_t), intent(inout) :: masses(cells)
+        type(source_book), intent(inout) :: book
         integer(c_int64_t) :: scratch(legzhuro_scratch*nodes)
 
         returned = legzhuro_family_step(family, size(family, kind=c_size_t), member, masses, cells, source, 1, targets, cells, &
                                         lows, cells, highs, cells, safe_lows, cells, safe_highs, cells, weights, cells, &
-                                        parents, nodes, scratch, size(scratch, kind=c_size_t), answer, size(answer, kind=c_size_t))
+                                        parents, nodes, scratch, size(scratch, kind=c_size_t), book%bytes, &
+                                        size(book%bytes, kind=c_size_t), book%length, answer, size(answer, kind=c_size_t))
+        if (returned == 0) book%length = int(answer(5), c_size_t)
         call print_step('', int(member, c_int64_t), source, answer, masses)
     end subroutine step_tracer
 
-    ! A turn of the next tracer, which is lent its own masses.
-    subroutine turn(family, masses, source)
+    ! A turn of the next tracer, which is lent its own masses and its own book.
+    subroutine turn(family, masses, book, source)
         integer(c_int64_t), intent(inout) :: family(:)
         integer(c_int32_t), intent(in) :: source
         integer(c_int32_t), intent(inout) :: masses(cells)
-        integer(c_int64_t) :: scratch(legzhuro_scratch*nodes), told(6)
+        type(source_book), intent(inout) :: book
+        integer(c_int64_t) :: scratch(legzhuro_scratch*nodes), told(7)
 
         returned = legzhuro_family_turn(family, size(family, kind=c_size_t), masses, cells, source, 1, targets, cells, lows, &
                                         cells, highs, cells, safe_lows, cells, safe_highs, cells, weights, cells, parents, &
-                                        nodes, scratch, size(scratch, kind=c_size_t), told, size(told, kind=c_size_t))
+                                        nodes, scratch, size(scratch, kind=c_size_t), book%bytes, size(book%bytes, kind=c_size_t), &
+                                        book%length, told, size(told, kind=c_size_t))
         if (returned /= 0) error stop 'the turn was refused'
         returned = told(2)
+        if (returned == 0) book%length = int(told(7), c_size_t)
         call print_step('turn: ', told(1), source, told(3:), masses)
     end subroutine turn
 

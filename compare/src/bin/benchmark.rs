@@ -1,12 +1,14 @@
-//! Measures a step and the call on a field file at 8, 64 and 512 cells on flat, binary and chain trees, and bounds from ratios, which need
-//! no tree: the proved library against the second implementation. Every number is the median over batches; both sides take turns, so that
-//! other load on the machine slows both alike.
+//! Measures a step with a book of one block and the call on a field file at 8, 64 and 512 cells on flat, binary and chain trees, a step with a
+//! book of 64 blocks on binary ones, and bounds from ratios, which need no tree: the proved library against the second implementation. Every
+//! number is the median over batches; both sides take turns, so that other load on the machine slows both alike.
 
+use compare::book::{Book, LentBook, MAX_BLOCKS, RECORDS, ROOM};
 use compare::calls;
-use compare::files::{answer_file_length, field_file, reconstruct_file, FileWorkspace};
-use compare::from_c::step_by;
+use compare::files::{answer_file_length, field_file, reconstruct_file, FileWorkspace, BLOCK};
+use compare::from_c::{step_by, STEP_ENTRIES};
 use compare::operations::{Balance, SCRATCH_PER_NODE};
 use compare::random::{binary, chain, flat, partition, Random};
+use compare::random_books::book_to;
 use compare::ratios::{bounds, WHOLE};
 use compare::tree::{sum, Field, Workspace};
 use std::hint::black_box;
@@ -68,21 +70,48 @@ fn print_line(call: &str, shape: &str, cells: usize, nodes: usize, (library, sec
     );
 }
 
-/// Steps with source 0: each one leads to the total again, so they are all accepted.
-fn measure_step(random: &mut Random, field: &Field, total: u32) -> (f64, f64) {
+/// A book that every step is lent as it was at first, whatever the steps record.
+#[derive(Clone)]
+struct Reset {
+    buffer: Vec<u8>,
+    length: usize,
+    /// The last block as it was at first.
+    block: Vec<u8>,
+}
+
+impl Reset {
+    fn new(book: &Book) -> Reset {
+        let mut buffer = book.bytes();
+        let length = buffer.len();
+        let block = buffer[length - BLOCK..].to_vec();
+        buffer.resize(ROOM, 0);
+        Reset { buffer, length, block }
+    }
+
+    /// The last block is the only one that a step writes, since it has a record left.
+    fn lend(&mut self) -> LentBook<'_> {
+        self.buffer[self.length - BLOCK..self.length].copy_from_slice(&self.block);
+        LentBook { buffer: &mut self.buffer, length: self.length }
+    }
+}
+
+/// Steps with source 0 and a book of so many blocks, the last half used: each one leads to the total again, so they are all accepted.
+fn measure_step(random: &mut Random, field: &Field, total: u32, blocks: usize) -> (f64, f64) {
     let balance = Balance { total, scale: 0 };
     let mut kept = partition(random, total, field.targets.len());
     let (mut kept_too, lists, mut workspace) = (kept.clone(), field.lists(), Workspace::default());
-    let (mut scratch, mut answer) = (vec![0; SCRATCH_PER_NODE * field.parents.len()], [0; 4]);
+    let (mut scratch, mut answer) = (vec![0; SCRATCH_PER_NODE * field.parents.len()], [0; STEP_ENTRIES]);
     let (mut scratch_too, mut answer_too) = (scratch.clone(), answer);
+    let mut book = Reset::new(&book_to(random, total, (blocks - 1) * RECORDS + RECORDS / 2));
+    let mut book_too = book.clone();
     let mut library = || {
-        let returned = calls::step(balance, black_box(&mut kept), 0, balance.scale, black_box(&lists), &mut scratch, &mut answer);
-        assert!(returned == 0);
+        let (kept, lists, book) = (black_box(&mut kept), black_box(&lists), black_box(&mut book).lend());
+        assert!(calls::step(balance, kept, 0, balance.scale, lists, &mut scratch, book, &mut answer) == 0);
     };
     let mut second = || {
-        let (kept, lists, scratch, answer) = (black_box(&mut kept_too), black_box(&lists), &mut scratch_too, &mut answer_too);
-        let result = step_by::<SCRATCH_PER_NODE>(&mut workspace, balance, kept, 0, balance.scale, lists, scratch, answer);
-        assert!(result.is_ok());
+        let (kept, lists, book) = (black_box(&mut kept_too), black_box(&lists), black_box(&mut book_too).lend());
+        let (scratch, answer) = (&mut scratch_too, &mut answer_too);
+        assert!(step_by::<SCRATCH_PER_NODE>(&mut workspace, balance, kept, 0, balance.scale, lists, scratch, book, answer).is_ok());
     };
     measure(&mut library, &mut second)
 }
@@ -120,10 +149,15 @@ fn main() {
         for cells in [8, 64, 512] {
             for (shape, parents) in [("flat", flat(cells)), ("binary", binary(cells)), ("chain", chain(cells))] {
                 let (field, total) = make_field(&mut random, parents, cells);
-                let times = if call == "step" { measure_step(&mut random, &field, total) } else { measure_file(&field, total) };
+                let times = if call == "step" { measure_step(&mut random, &field, total, 1) } else { measure_file(&field, total) };
                 print_line(call, shape, cells, field.parents.len(), times);
             }
         }
+    }
+    // With a long book, of which a step reads every block.
+    for cells in [8, 64, 512] {
+        let (field, total) = make_field(&mut random, binary(cells), cells);
+        print_line("step64", "binary", cells, field.parents.len(), measure_step(&mut random, &field, total, MAX_BLOCKS));
     }
     // Without a tree the cells are all the nodes.
     for cells in [8, 64, 512] {

@@ -67,4 +67,4 @@ module _ {b : BoundsCall} {left : Bounds} (p : BoundsContract b Done left) {r : 
       consistent u (same ∙ done-bounds b p .1) (reconstruct-accepts c .0 (told-passed q) .shape) (done-facts a q)
 
   pub step-consistent : (e : Event) (a : StepResult) → boundsOf (e .call .lists) ≡ left → Promised e → told e ≡ accepted a → Consistent (b .given) r (e .kept)
-  step-consistent e a same q t = consistent u (same ∙ done-bounds b p .1) (accepted-fits e q a t .shape) (accepted-facts e q a t .facts)
+  step-consistent e a same q t = consistent u (same ∙ done-bounds b p .1) (accepted-fits e q a t .masses .shape) (accepted-facts e q a t .facts)

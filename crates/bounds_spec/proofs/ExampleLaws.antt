@@ -1,9 +1,11 @@
--- The concrete calls of specs/Example.antt: their contracts hold by computing, so the theorems of consistency speak of them. Assumes nothing.
+-- The concrete calls of specs/Example.antt: their contracts hold by computing, save that the step's book is there by the laws of books. So the theorems
+-- of consistency speak of them. Assumes nothing.
 use mathlib.Core.Path.{refl}
 use mathlib.Core.List.{[], _∷_}
 use Prim.Native.Nat.{ℕ, zero, suc, _<_}
 use native.Mathlib.Omega.{arith}
-use lib.IntN.{pos}
+use lib.IntN.{pos, negsuc}
+use lib.Signed.{leZ-yes}
 use lib.ListN.{replicate}
 use Rattle.numbers.specs.Sums.{sumTo}
 use Rattle.numbers.specs.Lists.{listTo, written}
@@ -18,9 +20,15 @@ use Rattle.qlt_spec.specs.Field.{outcome, outcomeNumber, lowIn, highIn, changeO
 use Rattle.qlt_spec.specs.Masses.{massBetween, groupOf, treeMass, treeMasses, sharedOf, treeShared}
 use Rattle.qlt_spec.specs.Checks.{checkNodes, checkLists, checkTree, boundsOrdered, checkOrder, checkSum, checkReach, checkShape, checkValues}
 use Rattle.qlt_spec.specs.Operation.{reconstructVerdict, repair, reconstructTells, cleared, ReconstructContract}
+use Rattle.book_spec.specs.LentBook.{grownBuffer}
+use Rattle.book_spec.specs.Book.{entry, book}
+use Rattle.book_spec.proofs.StartLaws.{empty-closing}
 use Rattle.kept_spec.specs.declared.Stepped.the-variants as steps
-use Rattle.kept_spec.specs.Step.{checkSameScale, checkKept, stepVerdict, stepTells}
+use Rattle.kept_spec.specs.Step.{checkSameScale, checkKept, stepTells}
 use Rattle.kept_spec.specs.Account.{Event, Promised}
+use Rattle.kept_spec.specs.Example.{lentBook}
+use Rattle.kept_spec.proofs.ExampleLaws.{lentBook-held, typed}
+use Rattle.kept_spec.proofs.StepLaws.{accepted-promised}
 use Rattle.bounds_spec.specs.declared.Bounded.the-variants.{Done, Refused}
 use Rattle.bounds_spec.specs.Ratios.{ratioOf, lowMass, highMass, chosen}
 use Rattle.bounds_spec.specs.Bounds.{checkBoundsLengths, ratiosOk, checkRatios, boundsVerdict, boundsTells, BoundsContract}
@@ -52,20 +60,22 @@ abbrev pub stepped : Event
 stepped =
     record {
       call = quarterStep;
-      answer = steps.Accepted repaired (record { total = 3; scale = 20 });
+      answer = steps.Accepted repaired (record { total = 3; scale = 20 }) 512;
       kept = 1 ∷ 2 ∷ [];
       scratch = replicate 12 (pos 0);
+      book = grownBuffer (lentBook 4) 512 (entry (negsuc 0) 0 3);
     }
 
 repairs-it : ReconstructContract repairCall (repairs.Done repaired) (1 ∷ 2 ∷ []) (replicate 12 (pos 0)) × Promised stepped
 unfolding sumTo listTo written minℤ maxℤ quota eachFrom firstFrom checkCount clip clipped deficit capacity portion firstShare remainder left
     secondShare shares result leads childOf anyChild nodeSum parentOk nodeOk massFrom massAt massBetween outcome outcomeNumber lowIn highIn changeOf groupOf
     treeMass treeMasses sharedOf treeShared checkNodes checkLists checkTree boundsOrdered checkOrder checkSum checkReach checkShape checkValues repair cleared
-    reconstructVerdict reconstructTells checkTotal checkSameScale checkKept stepVerdict stepTells
-repairs-it = (
-  record { answers = refl; leaves = record { writes = refl; clears = refl } },
-  record { answers = refl; leaves = record { writes = refl; clears = refl } },
-)
+    reconstructVerdict reconstructTells checkTotal checkSameScale checkKept
+repairs-it =
+    let h = lentBook-held 4 (omega arith) in (
+      record { answers = refl; leaves = record { writes = refl; clears = refl } },
+      accepted-promised quarterStep (typed quarterStep h (leZ-yes tt) (leZ-yes tt)) (book 4 []) h (empty-closing 4) (omega arith) refl,
+    )
 
 -- so the theorems speak of it
 pub example-repaired : Consistent quarter (ratioOf 262144) (1 ∷ 2 ∷ [])

@@ -6,6 +6,7 @@ use lib.ListN.{replicate}
 use Rattle.qlt_spec.specs.Field.{Lists, lists}
 use Rattle.qlt_spec.specs.Operation.{ReconstructCall, reconstructCall}
 use Rattle.kept_spec.specs.Step.{StepCall, stepCall}
+use Rattle.kept_spec.specs.Example.{lentBook}
 use Rattle.bounds_spec.specs.Bounds.{Mixing, mixing, Bounds, bounds, BoundsCall, boundsCall}
 
 -- the four lists as they were lent
@@ -38,9 +39,9 @@ quarterCall = boundsCall quarter lent
 abbrev quarterLists : Lists
 quarterLists = lists (negsuc 4 ∷ pos 9 ∷ []) (1 ∷ 2 ∷ []) (1 ∷ 2 ∷ []) (1 ∷ 2 ∷ []) (1 ∷ 2 ∷ []) (0 ∷ 1 ∷ []) (2 ∷ 2 ∷ 2 ∷ [])
 
--- its repair for the total 3, and a step to it from kept masses 3 and 1 with source −1
+-- its repair for the total 3, and a step to it from kept masses 3 and 1 with source −1, lent a book without records
 abbrev pub repairCall : ReconstructCall
 repairCall = reconstructCall quarterLists 3 (7 ∷ 7 ∷ []) (replicate 12 (pos 1))
 
 abbrev pub quarterStep : StepCall
-quarterStep = stepCall (record { total = 4; scale = 20 }) (3 ∷ 1 ∷ []) (negsuc 0) 20 quarterLists (replicate 12 (pos 1))
+quarterStep = stepCall (record { total = 4; scale = 20 }) (3 ∷ 1 ∷ []) (negsuc 0) 20 quarterLists (replicate 12 (pos 1)) (lentBook 4) 512

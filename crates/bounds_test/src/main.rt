@@ -6,13 +6,14 @@
 // beyond its range, signed of 32 bits for the targets and the source, else unsigned, is taken as the end of it. Before the call each bound is 7.
 // A line has `done`, or `refused` with number and place, and then the four lists of bounds as the call left them: of each up to 16 numbers, or
 // of more their sum and a check number. After a call that was done comes the line of a step: it has kept masses of 0 at scale 0, the source and
-// the targets of the case, the bounds made, weights of 1, and one root above all cells. It has `step`, `done` with outcome, total, change and the
+// the targets of the case, the bounds made, weights of 1, one root above all cells, and a book without records. It has `step`, `done` with outcome, total, change and the
 // sum shared out, or `refused` with number and place, and the kept masses as the call left them. The cases end with the input, of which at most
 // 65,536 bytes are read.
-// Relies on `bounds`, which it tests, and `kept`, `bounds_spec`, `kept_spec` and `qlt_spec` for the answers, `test_support`, `numbers`, and the
+// Relies on `bounds`, which it tests, and `kept`, `book`, `bounds_spec`, `kept_spec`, `book_spec` and `qlt_spec` for the answers, `test_support`, `numbers`, and the
 // kit's `io` and `libc`.
 ghost use Prim.Native.Nat.{_+_, _*_, _≤_};
 ghost use lib.ListN.{length};
+use book_spec::BookStarted;
 use bounds_spec::Bounded;
 use input::Case;
 use kept_spec::Balance;
@@ -25,7 +26,18 @@ use test_support::runs::fill_targets;
 mod input;
 mod output;
 
-// Steps the kept masses, which have total 0 at scale 0, and prints the line.
+// Starts a book from the total 0, and gives its length.
+fn start(book: &mut [u8]) -> usize {
+    match book::start_book(0, book) {
+        BookStarted::Length(length) => length,
+        BookStarted::Refused {
+            number: _,
+            place: _,
+        } => 0,
+    }
+}
+
+// Steps the kept masses, which have total 0 at scale 0, with a book that opens with it, and prints the line.
 fn step_lists(
     source: i32,
     targets: &[i32],
@@ -40,6 +52,8 @@ fn step_lists(
 )
     requires { ⌜ length (now kept) ≤ 600 ⌝ }
 {
+    let mut book = [0u8; 32768];
+    let told = start(&mut book);
     let answer = kept::step(
         Balance { total: 0, scale: 0 },
         kept,
@@ -53,6 +67,8 @@ fn step_lists(
         weights,
         parents,
         scratch,
+        &mut book,
+        told,
     );
     output::show_step(answer, kept);
 }

@@ -43,7 +43,11 @@ pub fn show(answer: Bounded, lows: &[u32], highs: &[u32], safe_lows: &[u32], saf
 // The answer of Step.
 fn print_step(answer: Stepped) {
     match answer {
-        Stepped::Accepted { repair, balance: _ } => {
+        Stepped::Accepted {
+            repair,
+            balance: _,
+            length: _,
+        } => {
             io::write_all(STDOUT_FILENO, b"done");
             print_repair(repair.outcome, repair.total, repair.change, repair.shared);
         }

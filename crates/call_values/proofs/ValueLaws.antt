@@ -11,14 +11,14 @@ use borrow.Author.Tests.{le-leb, lt-leb}
 use Rattle.numbers.specs.declared.Checked.{Checked}
 use Rattle.numbers.specs.declared.Checked.the-variants.{Pass, Fail}
 use Rattle.numbers.specs.Lists.{written}
-use Rattle.numbers.specs.Checks.{accepted, refused, answered, after, both, first, checkLong, Rule, DecidesAll, OneOf, RefuseWith}
+use Rattle.numbers.specs.Checks.{accepted, refused, answered, after, both, first, checkLong, Rule, DecidesAll, OneOf, RefuseWith, numbersOf}
 use Rattle.numbers.proofs.TestLaws.{lt-means, and-means, and-first, and-second}
 use Rattle.numbers.proofs.CheckLaws.{both-pass, first-append}
 use Rattle.numbers.proofs.ChainLaws.{fails-number}
 use Rattle.qlt_spec.specs.Operation.{repair}
 use Rattle.kept_spec.specs.declared.Balance.{Balance}
 use Rattle.kept_spec.specs.Step.{StepCall, stepResult}
-use Rattle.call_values.specs.Values.{returned, toldBy, balanceWords, repairWords, balanceIn, resultIn}
+use Rattle.call_values.specs.Values.{returned, toldBy, balanceWords, resultWords, balanceIn, resultIn}
 
 -- ---- what a verdict makes of the return value and of a lent list
 
@@ -97,9 +97,12 @@ one-word (k ∷ ks) t n o =
     (λ e. rw e (and-means (lt-means 0 k) (lt-means k (2 ^ 32)) .0 (and-first (ltb 0 k && ltb k (2 ^ 32)) (inWords ks) t)))
     (λ q. one-word ks (and-second (ltb 0 k && ltb k (2 ^ 32)) (inWords ks) t) n q) o
 
--- so a verdict whose rules have these numbers is numbered: `numbered ns d w refl`
+-- so a verdict whose rules have none but these numbers is numbered: `within-numbers ns d w refl`
+pub within-numbers : {v : Checked} {rs : List Rule} (ns : List ℕ) → DecidesAll v rs → ((n : ℕ) → OneOf (numbersOf rs) n → OneOf ns n) → inWords ns ≡ true → Numbered v
+within-numbers ns d w t n p e = one-word ns t n (w n (fails-number d e))
+
 pub numbered : {v : Checked} {rs : List Rule} (ns : List ℕ) → DecidesAll v rs → RefuseWith rs ns → inWords ns ≡ true → Numbered v
-numbered ns d w t n p e = one-word ns t n (w n .0 (fails-number d e))
+numbered ns d w t = within-numbers ns d (λ n. w n .0) t
 
 -- ---- values in a list are read back as they were put
 
@@ -107,6 +110,6 @@ pub balance-read : (answer : List ℕ) (b : Balance) → balanceIn (written answ
 unfolding written
 balance-read answer b = refl
 
-pub result-read : (c : StepCall) (answer : List ℕ) → resultIn c (written answer 0 (repairWords (stepResult c .repair))) ≡ stepResult c
+pub result-read : (c : StepCall) (answer : List ℕ) → resultIn c (written answer 0 (resultWords (stepResult c .repair) (stepResult c .length))) ≡ stepResult c
 unfolding written repair
 result-read c answer = refl

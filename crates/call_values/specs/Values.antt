@@ -28,12 +28,12 @@ openValues = 2
 abbrev pub balanceWords : Balance → List ℕ
 balanceWords b = b .total ∷ b .scale ∷ []
 
--- of a step: what it tells goes to the first entries
+-- of a step: what it tells goes to the first entries, the length of its book last
 abbrev pub stepValues : ℕ
-stepValues = 4
+stepValues = 5
 
-abbrev pub repairWords : Repair → List ℕ
-repairWords r = r .outcome ∷ r .total ∷ r .change ∷ r .shared ∷ []
+abbrev pub resultWords : Repair → ℕ → List ℕ
+resultWords r l = r .outcome ∷ r .total ∷ r .change ∷ r .shared ∷ l ∷ []
 
 -- ---- from which the operations' own answers are read off
 
@@ -45,4 +45,4 @@ repairIn answer = record { outcome = at answer 0; total = at answer 1; change = 
 
 -- of a call of Step: the new balance is the total in the list, at the scale of the balance that the call was given
 abbrev pub resultIn : StepCall → List ℕ → StepResult
-resultIn c answer = record { repair = repairIn answer; balance = record { total = at answer 1; scale = c .balance .scale } }
+resultIn c answer = record { repair = repairIn answer; balance = record { total = at answer 1; scale = c .balance .scale }; length = at answer 4 }

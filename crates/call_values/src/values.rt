@@ -6,7 +6,7 @@ ghost use lib.ListN.{length};
 ghost use Rattle.numbers.specs.Lists.{written};
 ghost use Rattle.numbers.specs.Checks.{first, checkCount, checkLong};
 ghost use Rattle.qlt_spec.specs.Checks.{checkNodes};
-ghost use Rattle.call_values.specs.Values.{openValues, balanceWords, stepValues, repairWords};
+ghost use Rattle.call_values.specs.Values.{openValues, balanceWords, stepValues, resultWords};
 use field_checks::shape::check_nodes;
 use kept_spec::Balance;
 use numbers::Checked;
@@ -16,7 +16,7 @@ use numbers::checks::then;
 use qlt_spec::Repair;
 
 // The values that a step tells; `stepValues` in specs/.
-const STEP_VALUES: usize = 4;
+const STEP_VALUES: usize = 5;
 
 // The number in the low 32 bits, the place in the high 32.
 pub fn refusal(number: u32, place: u32) -> u64
@@ -45,13 +45,14 @@ pub fn put_balance(balance: Balance, answer: &mut [u64]) -> u64
     0
 }
 
-pub fn put_repair(repair: Repair, answer: &mut [u64]) -> u64
+pub fn put_result(repair: Repair, book: usize, answer: &mut [u64]) -> u64
     requires { ⌜ stepValues ≤ length (now answer) ⌝ }
-    ensures { λ r. ⌜ (r ≡ 0) × (now (answer .exit) ≡ written (now (answer .entry)) 0 (repairWords repair)) ⌝ }
+    ensures { λ r. ⌜ (r ≡ 0) × (now (answer .exit) ≡ written (now (answer .entry)) 0 (resultWords repair book)) ⌝ }
 {
     answer[0] = repair.outcome as u64;
     answer[1] = repair.total as u64;
     answer[2] = repair.change;
     answer[3] = repair.shared;
+    answer[4] = book as u64;
     0
 }

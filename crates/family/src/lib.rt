@@ -58,14 +58,16 @@ pub fn step_member(
     weights: &[u32],
     parents: &[u32],
     scratch: &mut [i64],
+    book: &mut [u8],
+    told: usize,
 ) -> FamilyStepped
     ensures { λ r.
         ⌜ StepMemberContract family member
         (stepInputs (now (kept .entry)) source scale
         (lists (now (targets .entry)) (now (lows .entry)) (now (highs .entry)) (now («safe_lows» .entry)) (now («safe_highs» .entry))
         (now (weights .entry)) (now (parents .entry)))
-        (now (scratch .entry)))
-        r (now (kept .exit)) (now (scratch .exit)) ⌝ }
+        (now (scratch .entry)) (now (book .entry)) told)
+        r (now (kept .exit)) (now (scratch .exit)) (now (book .exit)) ⌝ }
 {
     let own = verdict::check_stepping(family, member, targets.len());
     if let Checked::Fail { number, place } = own {
@@ -93,6 +95,8 @@ pub fn step_member(
         weights,
         parents,
         scratch,
+        book,
+        told,
     );
     FamilyStepped {
         family: work::take(family, member, answer),

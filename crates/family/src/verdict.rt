@@ -10,9 +10,9 @@ ghost use Rattle.family_spec.specs.Operations.{startVerdict, openMemberVerdict}
 use crate::members::member_at;
 use crate::members::others_of;
 use family_spec::Family;
-use kept::totals::add_source;
-use kept::totals::check_same_scale;
-use kept::verdict::open_verdict;
+use kept_checks::totals::add_source;
+use kept_checks::totals::check_same_scale;
+use kept_checks::verdict::open_verdict;
 use numbers::Checked;
 use numbers::arith::above;
 use numbers::checks::check_count;

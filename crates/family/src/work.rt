@@ -43,7 +43,11 @@ pub fn take(family: Family, member: u32, answer: Stepped) -> Family
     ensures { λ r. ⌜ r ≡ taken family member (stepTells answer) ⌝ }
 {
     match answer {
-        Stepped::Accepted { repair: _, balance } => with_total(family, member, balance.total),
+        Stepped::Accepted {
+            repair: _,
+            balance,
+            length: _,
+        } => with_total(family, member, balance.total),
         Stepped::Refused {
             number: _,
             place: _,

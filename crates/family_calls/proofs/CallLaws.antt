@@ -14,13 +14,12 @@ use Rattle.qlt_spec.specs.Field.{cells, nodes}
 use Rattle.qlt_spec.specs.Checks.{checkNodes}
 use Rattle.qlt_spec.specs.Operation.{Leaves}
 use Rattle.qlt_spec.proofs.OperationLaws.{leaves-refused}
+use Rattle.book_spec.specs.LentBook.{grownBuffer}
 use Rattle.kept_spec.specs.declared.Balance.{Balance}
 use Rattle.kept_spec.specs.declared.Opened.the-variants as opened
 use Rattle.kept_spec.specs.declared.Stepped.the-variants as stepped
 use Rattle.kept_spec.specs.Open.{openBalance, openTells}
-use Rattle.kept_spec.specs.Step.{StepCall, newTotal, repairCall, stepResult, stepTells}
-use Rattle.call_values.specs.Values.{returned, openValues, balanceWords, stepValues, repairWords}
-use Rattle.call_values.proofs.ValueLaws.{returned-pass, returned-fail, room, no-room, first-last}
+use Rattle.kept_spec.specs.Step.{StepCall, Typed, newTotal, repairCall, stepResult, stepTells, stepEntry}
 use Rattle.family_spec.specs.declared.Family.{Family}
 use Rattle.family_spec.specs.declared.Started.the-variants.{Done, Refused}
 use Rattle.family_spec.specs.declared.FamilyStarted.{FamilyStarted}
@@ -29,6 +28,8 @@ use Rattle.family_spec.specs.declared.FamilyStepped.{FamilyStepped}
 use Rattle.family_spec.specs.Family.{openWith, memberAt, put, begun, terms}
 use Rattle.family_spec.specs.Member.{checkOpened, checkSameCells, StepInputs, callOf}
 use Rattle.family_spec.specs.Operations.{startVerdict, startTells, StartContract, openMemberVerdict, OpenMemberContract, stepMemberVerdict, StepMemberContract}
+use Rattle.call_values.specs.Values.{returned, openValues, balanceWords, stepValues, resultWords}
+use Rattle.call_values.proofs.ValueLaws.{returned-pass, returned-fail, room, no-room, first-last}
 use Rattle.family_calls.specs.List.{familyEntries, familyWords, familyIn}
 use Rattle.family_calls.specs.Calls.{callRoom, startCallVerdict, FamilyStartReturns, openCallVerdict, FamilyOpenReturns, stepCallVerdict, FamilyStepReturns}
 
@@ -140,11 +141,18 @@ module _ (family : List ℕ) (i : ℕ) (x : StepInputs) (answer : List ℕ) wher
       (stepMemberVerdict g i x)
 
   pub step-room-refused :
-      {r number place : ℕ} → stepRoom family i x answer ≡ Fail number place → r ≡ number + place * 2 ^ 32
-      → FamilyStepReturns family i x answer r family (x .kept) (x .scratch) answer
-  step-room-refused e z =
+      {r number place : ℕ} → Typed c → stepRoom family i x answer ≡ Fail number place → r ≡ number + place * 2 ^ 32
+      → FamilyStepReturns family i x answer r family (x .kept) (x .scratch) (x .book) answer
+  step-room-refused y e z =
       let v = step-chain ∙ ap (λ w. both w (stepMemberVerdict g i x)) e in
-      record { returns = returned-fail v z; gives = after-fail _ family v; leaves = leaves-refused (repairCall c) v; writes = after-fail _ answer v }
+      record {
+        typed = y;
+        returns = returned-fail v z;
+        gives = after-fail _ family v;
+        leaves = leaves-refused (repairCall c) v;
+        files = after-fail _ (x .book) v;
+        writes = after-fail _ answer v;
+      }
 
   module _ (e : stepRoom family i x answer ≡ Pass) where
     pub step-family : familyEntries ≤ length family
@@ -162,27 +170,32 @@ module _ (family : List ℕ) (i : ℕ) (x : StepInputs) (answer : List ℕ) wher
     step-past : stepCallVerdict family i x answer ≡ stepMemberVerdict g i x
     step-past = step-chain ∙ ap (λ w. both w (stepMemberVerdict g i x)) e
 
-    module _ (a : FamilyStepped) {kept : List ℕ} {scratch : List ℤ} (p : StepMemberContract g i x a kept scratch) where
+    module _ (a : FamilyStepped) {kept : List ℕ} {scratch : List ℤ} {book : List ℕ} (p : StepMemberContract g i x a kept scratch book) where
       leaves-on : Leaves (stepCallVerdict family i x answer) (repairCall c) kept scratch
-      leaves-on = subst (λ v. Leaves v (repairCall c) kept scratch) (sym step-past) (p .tells .leaves)
+      leaves-on = subst (λ v. Leaves v (repairCall c) kept scratch) (sym step-past) (p .tells .tells .leaves)
+
+      files-on : book ≡ after (stepCallVerdict family i x answer) (grownBuffer (x .book) (x .length) (stepEntry c)) (x .book)
+      files-on = p .tells .files ∙ ap (λ v. after v (grownBuffer (x .book) (x .length) (stepEntry c)) (x .book)) (sym step-past)
 
       pub step-done :
-          {y : Repair} {b : Balance} {r : ℕ} {family′ answer′ : List ℕ} → a .answer ≡ stepped.Accepted y b → family′ ≡ written family 0 (familyWords (a .family)) → r ≡ 0
-          → answer′ ≡ written answer 0 (repairWords y) → FamilyStepReturns family i x answer r family′ kept scratch answer′
+          {y : Repair} {b : Balance} {l r : ℕ} {family′ answer′ : List ℕ} → a .answer ≡ stepped.Accepted y b l → family′ ≡ written family 0 (familyWords (a .family)) → r ≡ 0
+          → answer′ ≡ written answer 0 (resultWords y l) → FamilyStepReturns family i x answer r family′ kept scratch book answer′
       unfolding stepTells
-      step-done {y} {b} s u z w =
-          let t = answered-accepted (stepMemberVerdict g i x) (record { repair = y; balance = b }) (stepResult c) (ap stepTells (sym s) ∙ p .tells .answers) in
+      step-done {y} {b} {l} s u z w =
+          let t = answered-accepted (stepMemberVerdict g i x) (record { repair = y; balance = b; length = l }) (stepResult c) (ap stepTells (sym s) ∙ p .tells .tells .answers) in
           let v = step-past ∙ t .0 in
           record {
+            typed = p .tells .typed;
             returns = returned-pass v z;
             gives = after-pass family v (u ∙ ap (λ q. written family 0 (familyWords q)) (p .gives ∙ ap (λ q. after q (put g i (openWith (newTotal c))) g) (t .0)));
             leaves = leaves-on;
-            writes = after-pass answer v (w ∙ ap (λ q. written answer 0 (repairWords (q .repair))) (t .1));
+            files = files-on;
+            writes = after-pass answer v (w ∙ ap (λ q. written answer 0 (resultWords (q .repair) (q .length))) (t .1));
           }
 
       pub step-refused :
-          {r number place : ℕ} → a .answer ≡ stepped.Refused number place → r ≡ number + place * 2 ^ 32 → FamilyStepReturns family i x answer r family kept scratch answer
+          {r number place : ℕ} → a .answer ≡ stepped.Refused number place → r ≡ number + place * 2 ^ 32 → FamilyStepReturns family i x answer r family kept scratch book answer
       unfolding stepTells
       step-refused {number = number} {place = place} s z =
-          let v = step-past ∙ answered-refused (stepMemberVerdict g i x) (stepResult c) number place (ap stepTells (sym s) ∙ p .tells .answers) in
-          record { returns = returned-fail v z; gives = after-fail _ family v; leaves = leaves-on; writes = after-fail _ answer v }
+          let v = step-past ∙ answered-refused (stepMemberVerdict g i x) (stepResult c) number place (ap stepTells (sym s) ∙ p .tells .tells .answers) in
+          record { typed = p .tells .typed; returns = returned-fail v z; gives = after-fail _ family v; leaves = leaves-on; files = files-on; writes = after-fail _ answer v }

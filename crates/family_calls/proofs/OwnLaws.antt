@@ -22,17 +22,17 @@ use Rattle.kept_spec.specs.Open.{openBalance, openAnswer}
 use Rattle.kept_spec.specs.Step.{StepCall, newTotal, repairCall, stepResult, stepAnswer}
 use Rattle.kept_spec.proofs.OpenLaws.{open-answer-tells}
 use Rattle.kept_spec.proofs.StepLaws.{answer-tells}
-use Rattle.call_values.specs.Values.{returned, toldBy, openValues, balanceWords, balanceIn, stepValues, repairWords, resultIn}
-use Rattle.call_values.proofs.ValueLaws as values
-use Rattle.call_values.proofs.ValueLaws.{after-by, long-passes, long-fails, no-room, Numbered, told-own, numbered, balance-read, result-read}
 use Rattle.family_spec.specs.declared.Family.{Family}
 use Rattle.family_spec.specs.Family.{openWith, memberAt, put, begun, room, terms}
 use Rattle.family_spec.specs.Member.{checkOpened, checkSameCells, StepInputs, callOf, steppingVerdict}
 use Rattle.family_spec.specs.Operations.{startVerdict, startTells, startAnswer, StartContract, openMemberVerdict, OpenMemberContract, stepMemberVerdict, StepMemberContract}
 use Rattle.family_spec.proofs.RuleLaws.{start-decides, start-accepts, start-numbers, opening-decides, opening-accepts, opening-numbers, stepping-decides, stepping-accepts, stepping-numbers}
+use Rattle.call_values.specs.Values.{returned, toldBy, openValues, balanceWords, balanceIn, stepValues, resultIn, resultWords}
+use Rattle.call_values.proofs.ValueLaws.{after-by, long-passes, long-fails, no-room, Numbered, told-own, numbered, within-numbers, balance-read, result-read}
 use Rattle.family_calls.specs.List.{familyEntries, familyWords, familyIn}
 use Rattle.family_calls.specs.Calls.{startCallVerdict, FamilyStartReturns, openCallVerdict, FamilyOpenReturns, stepCallVerdict, FamilyStepReturns, openTold, stepTold}
 use Rattle.family_calls.proofs.ListLaws.{Typed, in-typed, begun-typed, put-typed, family-read}
+use Rattle.call_values.proofs.ValueLaws as values
 
 -- ---- the family read from the list that a call left
 
@@ -152,9 +152,9 @@ module _ (family : List ℕ) (i : ℕ) (kept : List ℕ) (k : ℕ) (answer : Lis
 -- ---- step
 
 pub step-numbered : (f : Family) (i : ℕ) (x : StepInputs) → Numbered (stepMemberVerdict f i x)
-step-numbered f i x = numbered _ (stepping-decides (terms f) i (memberAt f i) (room f i) x) (stepping-numbers (terms f) i (memberAt f i) (room f i) x) refl
+step-numbered f i x = within-numbers _ (stepping-decides (terms f) i (memberAt f i) (room f i) x) (stepping-numbers (terms f) i (memberAt f i) (room f i) x) refl
 
-module _ (family : List ℕ) (i : ℕ) (x : StepInputs) (answer : List ℕ) (r : ℕ) (family′ kept : List ℕ) (scratch : List ℤ) (answer′ : List ℕ) (q : FamilyStepReturns family i x answer r family′ kept scratch answer′) where
+module _ (family : List ℕ) (i : ℕ) (x : StepInputs) (answer : List ℕ) (r : ℕ) (family′ kept : List ℕ) (scratch : List ℤ) (book answer′ : List ℕ) (q : FamilyStepReturns family i x answer r family′ kept scratch book answer′) where
   abbrev g : Family
   g = familyIn family
 
@@ -179,21 +179,26 @@ module _ (family : List ℕ) (i : ℕ) (x : StepInputs) (answer : List ℕ) (r :
       again Pass (Fail n p) s t u w = refl
       again (Fail n p) e s t u w = refl
 
-  pub step-own : familyEntries ≤ length family → stepValues ≤ length answer → StepMemberContract g i x (record { family = familyIn family′; answer = stepAnswer (stepTold family i x r answer′) }) kept scratch
+  pub step-own : familyEntries ≤ length family → stepValues ≤ length answer → StepMemberContract g i x (record { family = familyIn family′; answer = stepAnswer (stepTold family i x r answer′) }) kept scratch book
   step-own h a =
       let v = step-long h a in
       record {
         tells =
             record {
-              answers =
-                  answer-tells (stepTold family i x r answer′)
-                  ∙ told-own (stepMemberVerdict g i x) r (resultIn c answer′) (stepResult c) (step-numbered g i x) (q .returns ∙ ap returned v)
-                  (λ e. ap (resultIn c) (q .writes ∙ after-by (written answer 0 (repairWords (stepResult c .repair))) answer (v ∙ e)) ∙ result-read c answer);
-              leaves = subst (λ w. Leaves w (repairCall c) kept scratch) v (q .leaves);
+              typed = q .typed;
+              tells =
+                  record {
+                    answers =
+                        answer-tells (stepTold family i x r answer′)
+                        ∙ told-own (stepMemberVerdict g i x) r (resultIn c answer′) (stepResult c) (step-numbered g i x) (q .returns ∙ ap returned v)
+                        (λ e. ap (resultIn c) (q .writes ∙ after-by (written answer 0 (resultWords (stepResult c .repair) (stepResult c .length))) answer (v ∙ e)) ∙ result-read c answer);
+                    leaves = subst (λ w. Leaves w (repairCall c) kept scratch) v (q .leaves);
+                  };
+              files = q .files ∙ after-by _ (x .book) v;
             };
         gives =
             read-after family family′ (put g i (openWith (newTotal c))) g (stepMemberVerdict g i x) (q .gives ∙ after-by _ family v)
-            (λ e. let z = stepping-accepts (terms g) i (memberAt g i) (room g i) x .0 e .stepping .small in put-typed g i (newTotal c) (omega (arith, z)) (in-typed family)) refl;
+            (λ e. let z = stepping-accepts (terms g) i (memberAt g i) (room g i) x .0 e .stepping .masses .small in put-typed g i (newTotal c) (omega (arith, z)) (in-typed family)) refl;
       }
 
   -- with a list for its values that is too short it is refused with 19, 1, 2 or 3
@@ -218,19 +223,19 @@ module _ (family : List ℕ) (i : ℕ) (x : StepInputs) (answer : List ℕ) (r :
 
   pub step-short :
       familyEntries ≤ length family → length answer < stepValues
-      → ((r ≡ 19) ⊎ ((r ≡ 1) ⊎ ((r ≡ 2) ⊎ (r ≡ 3)))) × ((family′ ≡ family) × ((kept ≡ x .kept) × ((scratch ≡ x .scratch) × (answer′ ≡ answer))))
+      → ((r ≡ 19) ⊎ ((r ≡ 1) ⊎ ((r ≡ 2) ⊎ (r ≡ 3)))) × ((family′ ≡ family) × ((kept ≡ x .kept) × ((scratch ≡ x .scratch) × ((book ≡ x .book) × (answer′ ≡ answer)))))
   step-short h a =
       let z = step-no-room h a in
       let v = z .1 .0 in
       let e : r ≡ z .0 = q .returns ∙ ap returned v ∙ omega arith in (
         subst (λ n. (n ≡ 19) ⊎ ((n ≡ 1) ⊎ ((n ≡ 2) ⊎ (n ≡ 3)))) (sym e) (z .1 .1),
-        (q .gives ∙ after-by _ family v, (q .leaves .writes ∙ after-by _ (x .kept) v, (q .leaves .clears ∙ after-by _ (x .scratch) v, q .writes ∙ after-by _ answer v))),
+        (q .gives ∙ after-by _ family v, (q .leaves .writes ∙ after-by _ (x .kept) v, (q .leaves .clears ∙ after-by _ (x .scratch) v, (q .files ∙ after-by _ (x .book) v, q .writes ∙ after-by _ answer v)))),
       )
 
-  pub step-no-family : length family < familyEntries → (r ≡ 3) × ((family′ ≡ family) × ((kept ≡ x .kept) × ((scratch ≡ x .scratch) × (answer′ ≡ answer))))
+  pub step-no-family : length family < familyEntries → (r ≡ 3) × ((family′ ≡ family) × ((kept ≡ x .kept) × ((scratch ≡ x .scratch) × ((book ≡ x .book) × (answer′ ≡ answer)))))
   unfolding stepCallVerdict
   step-no-family h =
       let v : stepCallVerdict family i x answer ≡ Fail 3 0 =
       ap (λ u. both u (both (checkOpened i (memberAt g i)) (both (checkSameCells (cells (x .lists)) (g .cells)) (both (checkCount (cells (x .lists))) (both (checkNodes (cells (x .lists)) (nodes (x .lists))) (both (checkLong (length answer) stepValues) (both (stepMemberVerdict g i x) Pass)))))))
       (long-fails (length family) familyEntries h) in
-      (q .returns ∙ ap returned v, (q .gives ∙ after-by _ family v, (q .leaves .writes ∙ after-by _ (x .kept) v, (q .leaves .clears ∙ after-by _ (x .scratch) v, q .writes ∙ after-by _ answer v))))
+      (q .returns ∙ ap returned v, (q .gives ∙ after-by _ family v, (q .leaves .writes ∙ after-by _ (x .kept) v, (q .leaves .clears ∙ after-by _ (x .scratch) v, (q .files ∙ after-by _ (x .book) v, q .writes ∙ after-by _ answer v)))))

@@ -11,13 +11,14 @@ use Rattle.numbers.specs.Checks.{Answered, after, first, checkCount, checkLong}
 use Rattle.qlt_spec.specs.Field.{cells, nodes}
 use Rattle.qlt_spec.specs.Checks.{checkNodes}
 use Rattle.qlt_spec.specs.Operation.{repair, Leaves}
+use Rattle.book_spec.specs.LentBook.{grownBuffer, grownLength}
 use Rattle.kept_spec.specs.declared.Balance.{Balance}
 use Rattle.kept_spec.specs.Open.{openBalance}
-use Rattle.kept_spec.specs.Step.{newTotal, repairCall, StepResult}
-use Rattle.call_values.specs.Values.{returned, toldBy, openValues, balanceWords, balanceIn, stepValues, repairWords, resultIn}
+use Rattle.kept_spec.specs.Step.{Typed, newTotal, repairCall, StepResult, stepEntry}
 use Rattle.family_spec.specs.Family.{openWith, memberAt, put, begun, terms}
 use Rattle.family_spec.specs.Member.{checkOpened, checkSameCells, StepInputs, callOf}
 use Rattle.family_spec.specs.Operations.{startVerdict, openMemberVerdict, stepMemberVerdict}
+use Rattle.call_values.specs.Values.{returned, toldBy, openValues, balanceWords, balanceIn, stepValues, resultWords, resultIn}
 use Rattle.family_calls.specs.List.{familyEntries, familyWords, familyIn}
 
 -- under 3 the list of the family, and the list for the values that a call gives
@@ -59,17 +60,21 @@ stepCallVerdict family i x answer =
     ∷ stepMemberVerdict f i x
     ∷ [])
 
-pub record FamilyStepReturns (family : List ℕ) (i : ℕ) (x : StepInputs) (answer : List ℕ) (r : ℕ) (family′ kept : List ℕ) (scratch : List ℤ) (answer′ : List ℕ) : Type 0 where
+pub record FamilyStepReturns (family : List ℕ) (i : ℕ) (x : StepInputs) (answer : List ℕ) (r : ℕ) (family′ kept : List ℕ) (scratch : List ℤ) (book answer′ : List ℕ) : Type 0 where
+  pub typed : Typed (callOf (terms (familyIn family)) (memberAt (familyIn family) i) x)
   pub returns : r ≡ returned (stepCallVerdict family i x answer)
   pub gives :
       family′
       ≡ after (stepCallVerdict family i x answer)
       (written family 0 (familyWords (put (familyIn family) i (openWith (newTotal (callOf (terms (familyIn family)) (memberAt (familyIn family) i) x)))))) family
   pub leaves : Leaves (stepCallVerdict family i x answer) (repairCall (callOf (terms (familyIn family)) (memberAt (familyIn family) i) x)) kept scratch
+  pub files :
+      book
+      ≡ after (stepCallVerdict family i x answer) (grownBuffer (x .book) (x .length) (stepEntry (callOf (terms (familyIn family)) (memberAt (familyIn family) i) x))) (x .book)
   pub writes :
       answer′
       ≡ after (stepCallVerdict family i x answer)
-      (written answer 0 (repairWords (repair (x .lists) (newTotal (callOf (terms (familyIn family)) (memberAt (familyIn family) i) x))))) answer
+      (written answer 0 (resultWords (repair (x .lists) (newTotal (callOf (terms (familyIn family)) (memberAt (familyIn family) i) x))) (grownLength (x .book) (x .length)))) answer
 
 -- ---- what a call told, by its return value and the list for its values
 

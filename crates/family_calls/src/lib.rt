@@ -5,7 +5,7 @@ ghost use Rattle.qlt_spec.specs.Field.{lists};
 ghost use Rattle.family_spec.specs.Member.{stepInputs};
 ghost use Rattle.family_calls.specs.Calls.{FamilyStartReturns, FamilyOpenReturns, FamilyStepReturns};
 use call_values::values::put_balance;
-use call_values::values::put_repair;
+use call_values::values::put_result;
 use call_values::values::refusal;
 use family::open_member;
 use family::start_family;
@@ -58,7 +58,8 @@ pub fn open(family: &mut [u64], member: u32, kept: &[u32], scale: u32, answer: &
     }
 }
 
-// Steps a member: answer[0] is the outcome, answer[1] the new total, answer[2] the change, answer[3] what was shared out.
+// Steps a member: answer[0] is the outcome, answer[1] the new total, answer[2] the change, answer[3] what was shared out, answer[4]
+// the book's new length.
 pub fn step(
     family: &mut [u64],
     member: u32,
@@ -73,6 +74,8 @@ pub fn step(
     weights: &[u32],
     parents: &[u32],
     scratch: &mut [i64],
+    book: &mut [u8],
+    told: usize,
     answer: &mut [u64],
 ) -> u64
     ensures { λ r.
@@ -80,8 +83,8 @@ pub fn step(
         (stepInputs (now (kept .entry)) source scale
         (lists (now (targets .entry)) (now (lows .entry)) (now (highs .entry)) (now («safe_lows» .entry)) (now («safe_highs» .entry))
         (now (weights .entry)) (now (parents .entry)))
-        (now (scratch .entry)))
-        (now (answer .entry)) r (now (family .exit)) (now (kept .exit)) (now (scratch .exit)) (now (answer .exit)) ⌝ }
+        (now (scratch .entry)) (now (book .entry)) told)
+        (now (answer .entry)) r (now (family .exit)) (now (kept .exit)) (now (scratch .exit)) (now (book .exit)) (now (answer .exit)) ⌝ }
 {
     let shape = verdict::step_room(family, member, targets.len(), parents.len(), answer.len());
     if let Checked::Fail { number, place } = shape {
@@ -101,12 +104,18 @@ pub fn step(
         weights,
         parents,
         scratch,
+        book,
+        told,
     );
-    let told = stepped.answer;
-    match told {
-        Stepped::Accepted { repair, balance: _ } => {
+    let answered = stepped.answer;
+    match answered {
+        Stepped::Accepted {
+            repair,
+            balance: _,
+            length,
+        } => {
             put_family(stepped.family, family);
-            put_repair(repair, answer)
+            put_result(repair, length, answer)
         }
         Stepped::Refused { number, place } => refusal(number, place),
     }

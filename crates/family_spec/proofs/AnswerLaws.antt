@@ -2,27 +2,29 @@
 -- input. Assumes nothing.
 use mathlib.Core.Path.{_≡_, refl, sym, _∙_, ap, subst}
 use mathlib.Core.List.{List, [], _∷_}
-use Prim.Native.Nat.{ℕ, _*_}
+use Prim.Native.Nat.{ℕ, suc, _*_, _≤_, _<_}
 use lib.IntN.{ℤ, pos, _+ℤ_}
 use lib.ListN.{length}
 use Rattle.numbers.specs.declared.Checked.{Checked}
 use Rattle.numbers.specs.declared.Checked.the-variants.{Pass, Fail}
 use Rattle.numbers.specs.Lists.{sum}
 use Rattle.numbers.specs.Signed.{over}
-use Rattle.numbers.specs.Checks.{Answered, accepted, refused, answered, after, both}
+use Rattle.numbers.specs.Checks.{Answered, accepted, refused, answered, after, both, first}
 use Rattle.numbers.proofs.TestLaws.{injective}
 use Rattle.numbers.proofs.CheckLaws.{on, stop, both-assoc, both-pass, first-append, after-pass, after-fail}
 use Rattle.qlt_spec.specs.Field.{cells, nodes, scratchPerNode, field}
 use Rattle.qlt_spec.specs.Masses.{treeMasses}
 use Rattle.qlt_spec.specs.Operation.{cleared}
 use Rattle.qlt_spec.proofs.OperationLaws.{contract-refused}
+use Rattle.book_spec.specs.LentBook.{grownBuffer, HasBook}
+use Rattle.book_spec.specs.Book.{book, maxBytes, Book, closing, count, maxEntries, bookBlocks}
 use Rattle.kept_spec.specs.declared.Opened.the-variants as opened
 use Rattle.kept_spec.specs.declared.Stepped.{Stepped}
 use Rattle.kept_spec.specs.declared.Stepped.the-variants as stepped
 use Rattle.kept_spec.specs.Open.{openChecksWith, openVerdictWith, openBalance, openTells, openAnswer}
-use Rattle.kept_spec.specs.Step.{StepCall, newTotal, checkSameScale, repairCall, stepVerdictWith, stepResult, stepTells, stepAnswer, StepBy}
+use Rattle.kept_spec.specs.Step.{StepCall, newTotal, checkSameScale, repairCall, stepVerdictWith, stepResult, stepTells, stepAnswer, StepBy, Typed, stepEntry}
 use Rattle.kept_spec.proofs.OpenLaws.{open-answer-tells}
-use Rattle.kept_spec.proofs.StepLaws.{answer-tells}
+use Rattle.kept_spec.proofs.StepLaws.{answer-tells, massChecksWith, ofBook, masses-first, lent-passes, failed-promised, passed-promised}
 use Rattle.family_spec.specs.declared.Member.{Member}
 use Rattle.family_spec.specs.declared.Family.{Family}
 use Rattle.family_spec.specs.declared.Started.{Started}
@@ -141,11 +143,43 @@ module _ (f : Family) (i : ℕ) (x : StepInputs) where
   unfolding steppingVerdict stepVerdictWith
   verdict-is = sym (both-assoc (checkOpened i (memberAt f i)) (checkSameCells (cells (x .lists)) (f .cells)) (stepVerdictWith (sourceCheck ∷ []) c))
 
-  pub step-refused : {number place : ℕ} → ownChecks ≡ Fail number place → StepMemberContract f i x (record { family = f; answer = stepped.Refused number place }) (x .kept) (x .scratch)
+  pub step-refused : {number place : ℕ} → Typed c → ownChecks ≡ Fail number place → StepMemberContract f i x (record { family = f; answer = stepped.Refused number place }) (x .kept) (x .scratch) (x .book)
   unfolding stepTells
-  step-refused e =
+  step-refused y e =
       let v = verdict-is ∙ sym (stop (stepVerdictWith (sourceCheck ∷ []) c) e) in
-      record { tells = contract-refused (repairCall c) (stepResult c) v; gives = after-fail _ f v }
+      record { tells = record { typed = y; tells = contract-refused (repairCall c) (stepResult c) v; files = after-fail _ (x .book) v }; gives = after-fail _ f v }
+
+  -- ---- lent a buffer that is long enough, the checks that look at neither the buffer nor its book, and then the book's
+
+  abbrev pub memberChecks : Checked
+  memberChecks = both ownChecks (first (massChecksWith c (sourceCheck ∷ [])))
+
+  masses-then-book : maxBytes ≤ length (x .book) → stepMemberVerdict f i x ≡ both memberChecks (first (ofBook c))
+  masses-then-book h =
+      verdict-is
+      ∙ ap (both ownChecks) (masses-first c (sourceCheck ∷ []) h)
+      ∙ sym (both-assoc ownChecks (first (massChecksWith c (sourceCheck ∷ []))) (first (ofBook c)))
+
+  -- a step that they refuse is refused so, whatever its book
+  pub member-refused :
+      {number place : ℕ} → Typed c → maxBytes ≤ length (x .book) → memberChecks ≡ Fail number place
+      → StepMemberContract f i x (record { family = f; answer = stepped.Refused number place }) (x .kept) (x .scratch) (x .book)
+  member-refused y h e =
+      let v = masses-then-book h ∙ sym (stop (first (ofBook c)) e) in
+      record { tells = failed-promised c y v; gives = after-fail _ f v }
+
+  -- a step that they pass is accepted, lent a book that closes with its member's total and is not full
+  pub member-accepted :
+      Typed c → (B : Book) → HasBook (x .book) (x .length) B → closing B ≡ totalOf f i → count B < maxEntries → memberChecks ≡ Pass
+      → StepMemberContract f i x
+      (record {
+        family = put f i (openWith (newTotal c));
+        answer = stepped.Accepted (stepResult c .repair) (stepResult c .balance) (512 * bookBlocks (suc (count B)));
+      })
+      (treeMasses (field (x .lists)) (newTotal c)) (cleared (scratchPerNode * nodes (x .lists)) (x .scratch)) (grownBuffer (x .book) (x .length) (stepEntry c))
+  member-accepted y B h q l e =
+      let v = masses-then-book (h .room) ∙ sym (on e (sym (lent-passes c B h q l))) in
+      record { tells = passed-promised c y B h v; gives = after-pass f v refl }
 
   -- past 19 and 1 it is the Step with 20 put in, and the family takes its total over
   taken-by : (v : Checked) → taken f i (answered v (stepResult c)) ≡ after v (put f i (openWith (newTotal c))) f
@@ -153,29 +187,29 @@ module _ (f : Family) (i : ℕ) (x : StepInputs) where
   taken-by (Fail number place) = refl
 
   step-done :
-      {answer : Stepped} {kept : List ℕ} {scratch : List ℤ} {g : Family} → ownChecks ≡ Pass → StepBy (stepVerdictWith (sourceCheck ∷ []) c) c answer kept scratch
-      → g ≡ taken f i (stepTells answer) → StepMemberContract f i x (record { family = g; answer = answer }) kept scratch
-  step-done {answer} {kept} {scratch} e p q =
+      {answer : Stepped} {kept : List ℕ} {scratch : List ℤ} {book : List ℕ} {g : Family} → ownChecks ≡ Pass → StepBy (stepVerdictWith (sourceCheck ∷ []) c) c answer kept scratch book
+      → g ≡ taken f i (stepTells answer) → StepMemberContract f i x (record { family = g; answer = answer }) kept scratch book
+  step-done {answer} {kept} {scratch} {book} e p q =
       let v = verdict-is ∙ sym (on {u = stepVerdictWith (sourceCheck ∷ []) c} {w = stepVerdictWith (sourceCheck ∷ []) c} e refl) in
       record {
-        tells = subst (λ w. StepBy w c answer kept scratch) (sym v) p;
-        gives = q ∙ ap (taken f i) (p .answers) ∙ taken-by (stepVerdictWith (sourceCheck ∷ []) c) ∙ ap (λ w. after w (put f i (openWith (newTotal c))) f) (sym v);
+        tells = subst (λ w. StepBy w c answer kept scratch book) (sym v) p;
+        gives = q ∙ ap (taken f i) (p .tells .answers) ∙ taken-by (stepVerdictWith (sourceCheck ∷ []) c) ∙ ap (λ w. after w (put f i (openWith (newTotal c))) f) (sym v);
       }
 
   -- the same as the code meets it: the member read, the source as it was handed on, and 20 of these
   abbrev handed : Member → ℤ → StepCall
-  handed m z = callOf (terms f) m (stepInputs (x .kept) z (x .scale) (x .lists) (x .scratch))
+  handed m z = callOf (terms f) m (stepInputs (x .kept) z (x .scale) (x .lists) (x .scratch) (x .book) (x .length))
 
   pub step-taken :
-      {answer : Stepped} {kept : List ℕ} {scratch : List ℤ} {g : Family} (own : Checked) (m : Member) (z : ℤ) → ownChecks ≡ Pass
+      {answer : Stepped} {kept : List ℕ} {scratch : List ℤ} {book : List ℕ} {g : Family} (own : Checked) (m : Member) (z : ℤ) → ownChecks ≡ Pass
       → own ≡ checkSource z (over (pos (totalOf f i) +ℤ z)) (room f i) → m ≡ memberAt f i → z ≡ x .source
-      → StepBy (stepVerdictWith (own ∷ []) (handed m z)) (handed m z) answer kept scratch → g ≡ taken f i (stepTells answer)
-      → StepMemberContract f i x (record { family = g; answer = answer }) kept scratch
-  step-taken {answer} {kept} {scratch} own m z e o h d p q =
+      → StepBy (stepVerdictWith (own ∷ []) (handed m z)) (handed m z) answer kept scratch book → g ≡ taken f i (stepTells answer)
+      → StepMemberContract f i x (record { family = g; answer = answer }) kept scratch book
+  step-taken {answer} {kept} {scratch} {book} own m z e o h d p q =
       let o′ : own ≡ sourceCheck = o ∙ ap (λ y. checkSource y (over (pos (totalOf f i) +ℤ y)) (room f i)) d in
-      step-done e (subst (λ X. X) (λ y. StepBy (stepVerdictWith (o′ y ∷ []) (handed (h y) (d y))) (handed (h y) (d y)) answer kept scratch) p) q
+      step-done e (subst (λ X. X) (λ y. StepBy (stepVerdictWith (o′ y ∷ []) (handed (h y) (d y))) (handed (h y) (d y)) answer kept scratch book) p) q
 
--- ---- for every input there is a call that keeps its contract
+-- ---- for every input of its types there is a call that keeps its contract
 
 pub every-open : (f : Family) (i : ℕ) (kept : List ℕ) (k : ℕ) → (r : FamilyOpened) × OpenMemberContract f i kept k r
 every-open f i kept k = (
@@ -192,8 +226,10 @@ every-register f i = (
   record { answers = register-answer-tells (answered (registerVerdict f i) tt); gives = refl },
 )
 
-pub every-step : (f : Family) (i : ℕ) (x : StepInputs) → (r : FamilyStepped) × ((kept : List ℕ) × ((scratch : List ℤ) × StepMemberContract f i x r kept scratch))
-every-step f i x =
+pub every-step :
+    (f : Family) (i : ℕ) (x : StepInputs) → Typed (callOf (terms f) (memberAt f i) x)
+    → (r : FamilyStepped) × ((kept : List ℕ) × ((scratch : List ℤ) × ((book : List ℕ) × StepMemberContract f i x r kept scratch book)))
+every-step f i x y =
     let v = stepMemberVerdict f i x in
     let c = callOf (terms f) (memberAt f i) x in (
       record { family = after v (put f i (openWith (newTotal c))) f; answer = stepAnswer (answered v (stepResult c)) },
@@ -201,7 +237,13 @@ every-step f i x =
         after v (treeMasses (field (x .lists)) (newTotal c)) (x .kept),
         (
           after v (cleared (scratchPerNode * nodes (x .lists)) (x .scratch)) (x .scratch),
-          record { tells = record { answers = answer-tells (answered v (stepResult c)); leaves = record { writes = refl; clears = refl } }; gives = refl },
+          (
+            after v (grownBuffer (x .book) (x .length) (stepEntry c)) (x .book),
+            record {
+              tells = record { typed = y; tells = record { answers = answer-tells (answered v (stepResult c)); leaves = record { writes = refl; clears = refl } }; files = refl };
+              gives = refl;
+            },
+          ),
         ),
       ),
     )

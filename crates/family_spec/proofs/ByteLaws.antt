@@ -1,11 +1,11 @@
 -- The byte of who waits: a bit set and a bit cleared, and the count of the set bits, each by a computed test of every byte and bit. Assumes
 -- nothing.
 use mathlib.Core.Path.{_≡_, refl, sym, _∙_, ap}
-use mathlib.Core.Bool.{Bool, true, false, not, _&&_, _||_, Bool·beq, cond}
-use Prim.Native.Nat.{ℕ, _+_, _≤_, _<_, _^_}
+use mathlib.Core.Bool.{Bool, true, false, not, _&&_, _||_, Bool·beq}
+use Prim.Native.Nat.{ℕ, _≤_, _<_, _^_}
 use lib.Count.{ones, onesIn}
 use lib.Dec.{eqb, leb, ltb}
-use borrow.Author.Tests.{eqb-true, leb-true, ltb-true, eq-eqb}
+use borrow.Author.Tests.{eqb-true, leb-true, ltb-true}
 use Rattle.numbers.specs.Sums.{sumTo}
 use Rattle.numbers.specs.Checks.{everyFrom}
 use Rattle.numbers.proofs.TestLaws.{clash}

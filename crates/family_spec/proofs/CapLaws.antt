@@ -55,7 +55,7 @@ steps-capped f eight c i x (Fail n p) e = c
 
 -- a step, by itself or in a turn
 stepped-capped :
-    {f : Family} {i : ℕ} {x : StepInputs} {r : FamilyStepped} {kept : List ℕ} {scratch : List ℤ} → Eight f → Capped f → StepMemberContract f i x r kept scratch
+    {f : Family} {i : ℕ} {x : StepInputs} {r : FamilyStepped} {kept : List ℕ} {scratch : List ℤ} {book : List ℕ} → Eight f → Capped f → StepMemberContract f i x r kept scratch book
     → Capped (r .family)
 stepped-capped {f} {i} {x} h c p = subst Capped (sym (p .gives)) (steps-capped f h c i x (stepMemberVerdict f i x) refl)
 
@@ -71,13 +71,14 @@ registers-capped f byte from c (Fail n p) = c
 moves-capped : {s t : FamilyStanding} {e : FamilyEvent} → Eight (s .family) → Capped (s .family) → FamilyMoves s e t → Capped (t .family)
 moves-capped {s} h c (FamilyMoves.opens {i = i} {kept} {k} p) =
     subst Capped (sym (p .gives)) (opens-capped (s .family) h c i kept k (openMemberVerdict (s .family) i kept k) refl)
-moves-capped h c (FamilyMoves.steps p q) = stepped-capped h c p
+moves-capped h c (FamilyMoves.steps p q u l) = stepped-capped h c p
 moves-capped {s} h c (FamilyMoves.registers {i = i} p) =
     subst Capped (sym (p .gives)) (registers-capped (s .family) (withBit (s .family .waiting) i) (s .family .from) c (registerVerdict (s .family) i))
-moves-capped h c (FamilyMoves.serves p q) =
+moves-capped h c (FamilyMoves.serves p q u l) =
     let t = turn-serves p in
     subst Capped (sym (t .ends)) (schedule-capped (t .stepped) _ _ (stepped-capped h c (t .contract)))
 moves-capped h c (FamilyMoves.idles p) = subst Capped (sym (turn-idles p .gives)) c
+moves-capped h c (FamilyMoves.books p t o f) = c
 
 -- ---- every history
 

@@ -10,12 +10,13 @@ use lib.IntN.{ℤ}
 use lib.ListN.{length}
 use Rattle.numbers.specs.declared.Checked.the-variants.{Pass}
 use Rattle.numbers.specs.Sums.{sumTo}
-use Rattle.numbers.specs.Checks.{after}
+use Rattle.numbers.specs.Checks.{after, Answered}
 use Rattle.numbers.proofs.TestLaws.{clash}
 use Rattle.numbers.proofs.CheckLaws.{answered-accepted}
 use Rattle.kept_spec.specs.declared.Stepped.{Stepped}
 use Rattle.kept_spec.specs.Open.{openTells}
 use Rattle.kept_spec.specs.Run.{Run}
+use Rattle.kept_spec.specs.Step.{stepTells, StepResult}
 use Rattle.family_spec.specs.declared.Family.{Family}
 use Rattle.family_spec.specs.declared.NextMember.the-variants as next
 use Rattle.family_spec.specs.declared.Turned.the-variants.{Idle, Served}
@@ -27,7 +28,7 @@ use Rattle.family_spec.specs.Family.{closed, memberAt, begun, totals, te
 use Rattle.family_spec.specs.Waiting.{waits, firstWaiting, membersWaiting}
 use Rattle.family_spec.specs.Member.{StepInputs}
 use Rattle.family_spec.specs.Operations.{startVerdict, startTells, OpenMemberContract, StepMemberContract, RegisterContract, nextMember, waitingCount, TurnContract}
-use Rattle.family_spec.specs.History.{FamilyEvent, FamilyStanding, place, placeIf, Lends, FamilyMoves, callsOf, view, told, held, openingsOf, stepsOf, turnsIn, servedIn}
+use Rattle.family_spec.specs.History.{FamilyEvent, FamilyStanding, place, placeIf, Lends, FamilyMoves, callsOf, view, told, held, openingsOf, turnsIn, servedIn, lengthsAfter, actsOf}
 use Rattle.family_spec.specs.Claims.{Begins, IsOpen, MemberAccount, Waits, waitsAfter, NotYetServed, ServedWithin8, searchFrom, FirstAmong, WaitingOpen, TurnIdle}
 use Rattle.family_spec.proofs.FamilyLaws.{Eight, begun-closed}
 use Rattle.family_spec.proofs.MemberLaws.{run-steady}
@@ -71,11 +72,13 @@ module _ {cap scale cells : ℕ} {s : FamilyStanding} (b : Begins cap scale cell
     pub accounts : (i : ℕ) → IsOpen end i ≡ true → MemberAccount i es end
     accounts i o = member-account i start-eight (ap (λ m. m .opened) (start-closed i)) r o
 
-    -- one that is not has no opening and no Step, a total of 0 and no masses
-    pub unopened : (i : ℕ) → IsOpen end i ≡ false → (openingsOf i es ≡ []) × (stepsOf (terms (end .family)) i es ≡ []) × (held end i ≡ record { member = closed; kept = [] })
+    -- one that is not has no opening, no Step and no start of a book, a total of 0 and no masses
+    pub unopened :
+        (i : ℕ) → IsOpen end i ≡ false
+        → (openingsOf i es ≡ []) × (actsOf (terms (end .family)) i es ≡ []) × (held end i ≡ record { member = closed; kept = []; book = []; length = 0 })
     unopened i o =
         let z = member-none i start-eight (ap (λ m. m .opened) (start-closed i)) r o in
-        (z .0, z .1, z .2 ∙ (λ y. record { member = start-closed i y; kept = b .empty i y }))
+        (z .0, z .1, z .2 ∙ (λ y. record { member = start-closed i y; kept = b .empty i y; book = b .no-book i y; length = b .no-length i y }))
 
     -- the totals do not pass the cap in sum
     pub capped : totals (end .family) ≤ cap
@@ -106,8 +109,8 @@ module _ {cap scale cells : ℕ} {s : FamilyStanding} (b : Begins cap scale cell
         subst (λ x. (nextMember (end .family) ≡ next.Member i) ↔ FirstAmong (end .family .waiting) x 8 i) e (next-is (end .family) i)
 
     -- a turn is idle exactly if nobody waits; it then changes nothing, and it and the reading of the next say so
-    pub idle-turns : {x : StepInputs} {a : FamilyTurned} {kept : List ℕ} {scratch : List ℤ} → TurnContract (end .family) x a kept scratch → TurnIdle (end .family) x a kept scratch
-    idle-turns p = turn-idle _ _ _ _ _ p
+    pub idle-turns : {x : StepInputs} {a : FamilyTurned} {kept : List ℕ} {scratch : List ℤ} {book : List ℕ} → TurnContract (end .family) x a kept scratch book → TurnIdle (end .family) x a kept scratch book
+    idle-turns p = turn-idle _ _ _ _ _ _ p
 
     -- registering twice counts once
     pub registered-once :
@@ -130,38 +133,52 @@ pub alone :
 alone b b′ r q i c =
     isolated i (start-eight b) (start-eight b′) r q
     (ap terms (start-is b) ∙ sym (ap terms (start-is b′)))
-    (λ z. record { member = (start-closed b i ∙ sym (start-closed b′ i)) z; kept = (b .empty i ∙ sym (b′ .empty i)) z }) c
+    (λ z.
+    record {
+      member = (start-closed b i ∙ sym (start-closed b′ i)) z;
+      kept = (b .empty i ∙ sym (b′ .empty i)) z;
+      book = (b .no-book i ∙ sym (b′ .no-book i)) z;
+      length = (b .no-length i ∙ sym (b′ .no-length i)) z;
+    })
+    c
 
 -- ---- histories are not empty talk
 
--- what the contracts promise of an opening, of a step or a turn that is lent its member's masses, and of a registration moves a history on,
--- accepted or refused; for every input there is such a call (`every-open`, `every-step`, `every-register`, `every-turn`)
+-- what the contracts promise of an opening, of a step or a turn that is lent its member's masses and book, of a registration and of a start of a
+-- book moves a history on, accepted or refused; for every input there is such a call (`every-open`, `every-step`, `every-register`, `every-turn`)
 pub always-opens :
     (s : FamilyStanding) (i : ℕ) (kept : List ℕ) (k : ℕ) (r : FamilyOpened) → OpenMemberContract (s .family) i kept k r
-    → FamilyMoves s (FamilyEvent.opens (s .family) i kept k r) (record { family = r .family; kept = placeIf (openTells (r .answer)) (s .kept) i kept })
+    → FamilyMoves s (FamilyEvent.opens (s .family) i kept k r)
+    (record { family = r .family; kept = placeIf (openTells (r .answer)) (s .kept) i kept; book = s .book; length = s .length })
 always-opens s i kept k r p = FamilyMoves.opens p
 
+-- a list that is lent as a whole
+pub lends-whole : (all : ℕ → List ℕ) (i : ℕ) {given left : List ℕ} {told : Answered StepResult} → given ≡ all i → Lends all i given told left (place all i left)
+lends-whole all i {given} {left} {told} e =
+    subst (λ l. Lends all i given told left (place all i l)) (append-nil left) (Lends.own [] [] (sym e ∙ sym (append-nil given)) (λ a. e))
+
 pub always-steps :
-    (s : FamilyStanding) (i : ℕ) (x : StepInputs) (r : FamilyStepped) (kept : List ℕ) (scratch : List ℤ) → StepMemberContract (s .family) i x r kept scratch
-    → x .kept ≡ s .kept i → FamilyMoves s (FamilyEvent.steps (s .family) i x r kept scratch) (record { family = r .family; kept = place (s .kept) i kept })
-always-steps s i x r kept scratch p e =
-    subst (λ l. FamilyMoves s (FamilyEvent.steps (s .family) i x r kept scratch) (record { family = r .family; kept = place (s .kept) i l })) (append-nil kept)
-    (FamilyMoves.steps p (Lends.own [] [] (sym e ∙ sym (append-nil (x .kept))) (λ a. e)))
+    (s : FamilyStanding) (i : ℕ) (x : StepInputs) (r : FamilyStepped) (kept : List ℕ) (scratch : List ℤ) (book : List ℕ)
+    → StepMemberContract (s .family) i x r kept scratch book → x .kept ≡ s .kept i → x .book ≡ s .book i → x .length ≡ s .length i
+    → FamilyMoves s (FamilyEvent.steps (s .family) i x r kept scratch book)
+    (record { family = r .family; kept = place (s .kept) i kept; book = place (s .book) i book; length = lengthsAfter (s .length) i (stepTells (r .answer)) })
+always-steps s i x r kept scratch book p e d l = FamilyMoves.steps p (lends-whole (s .kept) i e) (lends-whole (s .book) i d) (λ a. l)
 
 pub always-registers :
     (s : FamilyStanding) (i : ℕ) (r : FamilyRegistered) → RegisterContract (s .family) i r
-    → FamilyMoves s (FamilyEvent.registers (s .family) i r) (record { family = r .family; kept = s .kept })
+    → FamilyMoves s (FamilyEvent.registers (s .family) i r) (record { family = r .family; kept = s .kept; book = s .book; length = s .length })
 always-registers s i r p = FamilyMoves.registers p
 
 pub always-serves :
-    (s : FamilyStanding) (x : StepInputs) (g : Family) (i : ℕ) (answer : Stepped) (kept : List ℕ) (scratch : List ℤ)
-    → TurnContract (s .family) x (record { family = g; answer = Served i answer }) kept scratch → x .kept ≡ s .kept i
-    → FamilyMoves s (FamilyEvent.turns (s .family) x (record { family = g; answer = Served i answer }) kept scratch) (record { family = g; kept = place (s .kept) i kept })
-always-serves s x g i answer kept scratch p e =
-    subst (λ l. FamilyMoves s (FamilyEvent.turns (s .family) x (record { family = g; answer = Served i answer }) kept scratch) (record { family = g; kept = place (s .kept) i l })) (append-nil kept)
-    (FamilyMoves.serves p (Lends.own [] [] (sym e ∙ sym (append-nil (x .kept))) (λ a. e)))
+    (s : FamilyStanding) (x : StepInputs) (g : Family) (i : ℕ) (answer : Stepped) (kept : List ℕ) (scratch : List ℤ) (book : List ℕ)
+    → TurnContract (s .family) x (record { family = g; answer = Served i answer }) kept scratch book → x .kept ≡ s .kept i → x .book ≡ s .book i
+    → x .length ≡ s .length i → FamilyMoves s (FamilyEvent.turns (s .family) x (record { family = g; answer = Served i answer }) kept scratch book)
+    (record { family = g; kept = place (s .kept) i kept; book = place (s .book) i book; length = lengthsAfter (s .length) i (stepTells answer) })
+always-serves s x g i answer kept scratch book p e d l = FamilyMoves.serves p (lends-whole (s .kept) i e) (lends-whole (s .book) i d) (λ a. l)
 
 pub always-idles :
-    (s : FamilyStanding) (x : StepInputs) (g : Family) (kept : List ℕ) (scratch : List ℤ) → TurnContract (s .family) x (record { family = g; answer = Idle }) kept scratch
-    → FamilyMoves s (FamilyEvent.turns (s .family) x (record { family = g; answer = Idle }) kept scratch) (record { family = g; kept = s .kept })
-always-idles s x g kept scratch p = FamilyMoves.idles p
+    (s : FamilyStanding) (x : StepInputs) (g : Family) (kept : List ℕ) (scratch : List ℤ) (book : List ℕ)
+    → TurnContract (s .family) x (record { family = g; answer = Idle }) kept scratch book
+    → FamilyMoves s (FamilyEvent.turns (s .family) x (record { family = g; answer = Idle }) kept scratch book)
+    (record { family = g; kept = s .kept; book = s .book; length = s .length })
+always-idles s x g kept scratch book p = FamilyMoves.idles p

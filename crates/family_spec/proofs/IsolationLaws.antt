@@ -12,9 +12,10 @@ use Rattle.numbers.specs.Checks.{answered, after}
 use Rattle.qlt_spec.specs.Field.{nodes, scratchPerNode, field}
 use Rattle.qlt_spec.specs.Masses.{treeMasses}
 use Rattle.qlt_spec.specs.Operation.{cleared}
+use Rattle.book_spec.specs.LentBook.{grownBuffer}
 use Rattle.kept_spec.specs.declared.Stepped.{Stepped}
 use Rattle.kept_spec.specs.Open.{openBalance}
-use Rattle.kept_spec.specs.Step.{newTotal, stepResult}
+use Rattle.kept_spec.specs.Step.{newTotal, stepResult, stepEntry}
 use Rattle.kept_spec.specs.Run.{Run}
 use Rattle.kept_spec.proofs.OpenLaws.{open-tells-injective}
 use Rattle.kept_spec.proofs.StepLaws.{step-tells-injective}
@@ -77,21 +78,25 @@ module _ {f g : Family} {i : ℕ} (a : Alike i f g) (h : Eight f) (k : Eight g) 
 
   -- a step with the same inputs answers alike, leaves the same lists and gives member i alike
   pub step-alone :
-      {x : StepInputs} (r r′ : FamilyStepped) {kept kept′ : List ℕ} {scratch scratch′ : List ℤ} → StepMemberContract f i x r kept scratch
-      → StepMemberContract g i x r′ kept′ scratch′
-      → (r .answer ≡ r′ .answer) × ((kept ≡ kept′) × ((scratch ≡ scratch′) × (memberAt (r .family) i ≡ memberAt (r′ .family) i)))
+      {x : StepInputs} (r r′ : FamilyStepped) {kept kept′ : List ℕ} {scratch scratch′ : List ℤ} {book book′ : List ℕ} → StepMemberContract f i x r kept scratch book
+      → StepMemberContract g i x r′ kept′ scratch′ book′
+      → (r .answer ≡ r′ .answer)
+      × ((kept ≡ kept′) × ((scratch ≡ scratch′) × ((book ≡ book′) × (memberAt (r .family) i ≡ memberAt (r′ .family) i))))
   step-alone {x} r r′ p q =
       let v : stepMemberVerdict f i x ≡ stepMemberVerdict g i x = λ z. steppingVerdict (a .terms z) i (a .member z) (a .room z) x in
       let c : callOf (terms f) (memberAt f i) x ≡ callOf (terms g) (memberAt g i) x = λ z. callOf (a .terms z) (a .member z) x in (
-        step-tells-injective (r .answer) (r′ .answer) (p .tells .answers ∙ ap₂ (λ w d. answered w (stepResult d)) v c ∙ sym (q .tells .answers)),
+        step-tells-injective (r .answer) (r′ .answer) (p .tells .tells .answers ∙ ap₂ (λ w d. answered w (stepResult d)) v c ∙ sym (q .tells .tells .answers)),
         (
-          p .tells .leaves .writes ∙ ap₂ (λ w d. after w (treeMasses (field (x .lists)) (newTotal d)) (x .kept)) v c ∙ sym (q .tells .leaves .writes),
+          p .tells .tells .leaves .writes ∙ ap₂ (λ w d. after w (treeMasses (field (x .lists)) (newTotal d)) (x .kept)) v c ∙ sym (q .tells .tells .leaves .writes),
           (
-            p .tells .leaves .clears ∙ ap (λ w. after w (cleared (scratchPerNode * nodes (x .lists)) (x .scratch)) (x .scratch)) v ∙ sym (q .tells .leaves .clears),
-            ap (λ u. memberAt u i) (p .gives)
-                ∙ put-here f h i (openWith (newTotal (callOf (terms f) (memberAt f i) x))) (stepMemberVerdict f i x) (λ e. step-number f i x e)
-                ∙ (λ z. after (v z) (openWith (newTotal (c z))) (a .member z))
-                ∙ sym (ap (λ u. memberAt u i) (q .gives) ∙ put-here g k i (openWith (newTotal (callOf (terms g) (memberAt g i) x))) (stepMemberVerdict g i x) (λ e. step-number g i x e)),
+            p .tells .tells .leaves .clears ∙ ap (λ w. after w (cleared (scratchPerNode * nodes (x .lists)) (x .scratch)) (x .scratch)) v ∙ sym (q .tells .tells .leaves .clears),
+            (
+              p .tells .files ∙ ap₂ (λ w d. after w (grownBuffer (x .book) (x .length) (stepEntry d)) (x .book)) v c ∙ sym (q .tells .files),
+              ap (λ u. memberAt u i) (p .gives)
+                  ∙ put-here f h i (openWith (newTotal (callOf (terms f) (memberAt f i) x))) (stepMemberVerdict f i x) (λ e. step-number f i x e)
+                  ∙ (λ z. after (v z) (openWith (newTotal (c z))) (a .member z))
+                  ∙ sym (ap (λ u. memberAt u i) (q .gives) ∙ put-here g k i (openWith (newTotal (callOf (terms g) (memberAt g i) x))) (stepMemberVerdict g i x) (λ e. step-number g i x e)),
+            ),
           ),
         ),
       )
@@ -106,14 +111,14 @@ module _ {f g : Family} {i : ℕ} (a : Alike i f g) (h : Eight f) (k : Eight g) 
 
   -- turns with the same inputs that serve member i answer alike, leave the same lists and give member i alike, whoever else waits
   pub turn-alone :
-      {x : StepInputs} {u v : Family} {b c : Stepped} {kept kept′ : List ℕ} {scratch scratch′ : List ℤ}
-      → TurnContract f x (record { family = u; answer = Served i b }) kept scratch → TurnContract g x (record { family = v; answer = Served i c }) kept′ scratch′
-      → (b ≡ c) × ((kept ≡ kept′) × ((scratch ≡ scratch′) × (memberAt u i ≡ memberAt v i)))
+      {x : StepInputs} {u v : Family} {b c : Stepped} {kept kept′ : List ℕ} {scratch scratch′ : List ℤ} {book book′ : List ℕ}
+      → TurnContract f x (record { family = u; answer = Served i b }) kept scratch book → TurnContract g x (record { family = v; answer = Served i c }) kept′ scratch′ book′
+      → (b ≡ c) × ((kept ≡ kept′) × ((scratch ≡ scratch′) × ((book ≡ book′) × (memberAt u i ≡ memberAt v i))))
   turn-alone p q =
       let s = turn-serves p in
       let t = turn-serves q in
       let z = step-alone _ _ (s .contract) (t .contract) in
-      (z .0, (z .1 .0, (z .1 .1 .0, ap (λ h. memberAt h i) (s .ends) ∙ z .1 .1 .1 ∙ sym (ap (λ h. memberAt h i) (t .ends)))))
+      (z .0, (z .1 .0, (z .1 .1 .0, (z .1 .1 .1 .0, ap (λ h. memberAt h i) (s .ends) ∙ z .1 .1 .1 .1 ∙ sym (ap (λ h. memberAt h i) (t .ends))))))
 
 -- and every call leaves the other members, the cap, the scale and the cells
 pub open-others :
@@ -122,7 +127,7 @@ pub open-others :
 open-others {f} {i} {kept} {k} r h p = (open-steady p, λ j n. ap (λ g. memberAt g j) (p .gives) ∙ put-other f h i (openWith (sum kept)) (openMemberVerdict f i kept k) j n)
 
 pub step-others :
-    {f : Family} {i : ℕ} {x : StepInputs} (r : FamilyStepped) {kept : List ℕ} {scratch : List ℤ} → Eight f → StepMemberContract f i x r kept scratch
+    {f : Family} {i : ℕ} {x : StepInputs} (r : FamilyStepped) {kept : List ℕ} {scratch : List ℤ} {book : List ℕ} → Eight f → StepMemberContract f i x r kept scratch book
     → Steady f (r .family) × ((j : ℕ) → j ≢ i → memberAt (r .family) j ≡ memberAt f j)
 step-others {f} {i} {x} r h p = (
   step-steady p,
@@ -135,8 +140,8 @@ register-others r p = (register-steady p, register-members p)
 
 -- a turn leaves every member but the one that it serves
 pub turn-others :
-    {f : Family} {x : StepInputs} {g : Family} {i : ℕ} {answer : Stepped} {kept : List ℕ} {scratch : List ℤ} → Eight f
-    → TurnContract f x (record { family = g; answer = Served i answer }) kept scratch → Steady f g × ((j : ℕ) → j ≢ i → memberAt g j ≡ memberAt f j)
+    {f : Family} {x : StepInputs} {g : Family} {i : ℕ} {answer : Stepped} {kept : List ℕ} {scratch : List ℤ} {book : List ℕ} → Eight f
+    → TurnContract f x (record { family = g; answer = Served i answer }) kept scratch book → Steady f g × ((j : ℕ) → j ≢ i → memberAt g j ≡ memberAt f j)
 turn-others {f} h p =
     let t = turn-serves p in
     let z = step-others _ h (t .contract) in

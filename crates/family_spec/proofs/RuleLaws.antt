@@ -12,24 +12,27 @@ use lib.ListN.{length}
 use Rattle.numbers.specs.declared.Checked.{Checked}
 use Rattle.numbers.specs.declared.Checked.the-variants.{Pass, Fail}
 use Rattle.numbers.specs.Lists.{sum, All}
-use Rattle.numbers.specs.Checks.{first, Decides, rule, DecidesAll, Holds, Broken, RefuseWith, Extends}
+use Rattle.numbers.specs.Checks.{first, Decides, rule, DecidesAll, Holds, Broken, RefuseWith, Extends, OneOf, numbersOf, both}
 use Rattle.numbers.proofs.TestLaws.{and-means, le-means, eq-means}
 use Rattle.numbers.proofs.SignedLaws.{parts-le, leZ-means}
-use Rattle.numbers.proofs.CheckLaws.{both-pass, first-append, decides-unless, decides-then, decides-append, decides-none, count-decides, scale-decides}
-use Rattle.numbers.proofs.ChainLaws.{Passes, pass-all, all-pass, extends-pass, extends-fail, refuse-with}
+use Rattle.numbers.proofs.CheckLaws.{both-pass, first-append, decides-unless, decides-then, decides-append, decides-none, count-decides, scale-decides, on}
+use Rattle.numbers.proofs.ChainLaws.{Passes, pass-all, all-pass, extends-pass, extends-fail, refuse-with, are-of, one-append}
 use Rattle.qlt_spec.specs.Field.{cells}
 use Rattle.qlt_spec.specs.Operation.{shapeRules, valueRules}
-use Rattle.kept_spec.specs.Open as alone-open
+use Rattle.book_spec.specs.Book.{book}
+use Rattle.book_spec.specs.LentBook.{lentRules}
+use Rattle.book_spec.proofs.LentLaws.{lent-numbers, lent-refuse-with}
 use Rattle.kept_spec.specs.Open.{openChecks, openVerdictWith, openRulesWith, OpenFits}
-use Rattle.kept_spec.specs.Step as alone-step
 use Rattle.kept_spec.specs.Step.{newTotal, checkSameScale, stepChecks, stepVerdictWith, scaleRule}
 use Rattle.kept_spec.proofs.OpenLaws.{open-decides-with, open-accepts}
-use Rattle.kept_spec.proofs.StepLaws.{same-scale-decides, step-decides-with, step-accepts, with-extends}
+use Rattle.kept_spec.proofs.StepLaws.{same-scale-decides, step-decides-with, step-accepts, with-extends, with-full, number-of}
 use Rattle.family_spec.specs.declared.Member.{Member}
 use Rattle.family_spec.specs.Family.{Terms}
 use Rattle.family_spec.specs.Member.{checkClosed, checkOpened, checkSameCells, checkRoom, checkSource, openingChecks, openingVerdict, StepInputs, callOf, steppingChecks, steppingVerdict}
-use Rattle.family_spec.specs.Rules.{startRules, StartFits, openingRules, OpeningFits, SourceFits, steppingRules, SteppingFits, registeringRules, RegisteringFits}
+use Rattle.family_spec.specs.Rules.{startRules, StartFits, openingRules, OpeningFits, SourceFits, steppingRules, SteppingFits, registeringRules, RegisteringFits, SteppingFull}
 use Rattle.family_spec.specs.Operations.{startVerdict}
+use Rattle.kept_spec.specs.Open as alone-open
+use Rattle.kept_spec.specs.Step as alone-step
 
 not-means : (b : Bool) → (not b ≡ true) ↔ (b ≡ false)
 not-means true = (λ e. sym e, λ e. sym e)
@@ -171,6 +174,13 @@ module _ (t : Terms) (i : ℕ) (m : Member) (space : ℤ) (kept : List ℕ) (k :
 
 -- ---- a step
 
+-- refused with a number that the first of two checks never has, the first passes and the second is refused so
+both-fails :
+    (u v : Checked) (k n p : ℕ) → ((number place : ℕ) → u ≡ Fail number place → number ≡ k) → (n ≡ k → ⊥) → both u v ≡ Fail n p
+    → (u ≡ Pass) × (v ≡ Fail n p)
+both-fails Pass v k n p h o e = (refl, e)
+both-fails (Fail m q) v k n p h o e = absurd (o (sym (number-of e) ∙ h m q refl))
+
 -- the family's own numbers: 1 of another n
 abbrev pub SteppingOwn : ℕ → Type 0
 SteppingOwn n = (n ≡ 19) ⊎ ((n ≡ 1) ⊎ (n ≡ 20))
@@ -212,7 +222,7 @@ module _ (t : Terms) (i : ℕ) (m : Member) (space : ℤ) (x : StepInputs) where
 
   -- the checks one by one
   stepping-fits : All Passes (steppingChecks t i m space x) → alone-step.StepFits c → SteppingFits t i m space x
-  stepping-fits (All.more a (All.more b (All.more d (All.more e (All.more f (All.more g (All.more h (All.more s (All.more r All.none))))))))) z =
+  stepping-fits (All.more a (All.more b (All.more d (All.more q (All.more e (All.more f (All.more g (All.more h (All.more s r))))))))) z =
       let o = opened-decides i m .passes .0 a in
       record {
         number = o .0;
@@ -223,11 +233,11 @@ module _ (t : Terms) (i : ℕ) (m : Member) (space : ℤ) (x : StepInputs) where
       }
 
   stepping-passes : SteppingFits t i m space x → All Passes (stepChecks c) → All Passes (steppingChecks t i m space x)
-  stepping-passes z (All.more d (All.more e (All.more f (All.more g (All.more h (All.more r All.none)))))) =
+  stepping-passes z (All.more d (All.more q (All.more e (All.more f (All.more g (All.more h r)))))) =
       All.more (opened-decides i m .passes .1 (z .number, z .is-open))
       (All.more (same-cells-decides (cells (x .lists)) (t .cells) .passes .1 (z .same-cells))
-      (All.more d (All.more e (All.more f (All.more g (All.more h
-      (All.more (source-decides (x .source) (newTotal c) space .passes .1 (z .within)) (All.more r All.none))))))))
+      (All.more d (All.more q (All.more e (All.more f (All.more g (All.more h
+      (All.more (source-decides (x .source) (newTotal c) space .passes .1 (z .within)) r))))))))
 
   pub stepping-accepts : (w ≡ Pass) ↔ SteppingFits t i m space x
   unfolding steppingVerdict alone-step.stepVerdict
@@ -239,9 +249,53 @@ module _ (t : Terms) (i : ℕ) (m : Member) (space : ℤ) (x : StepInputs) where
   pub stepping-refuses : (number place : ℕ) → (w ≡ Fail number place) ↔ Broken (steppingRules t i m space x) number place
   stepping-refuses = stepping-decides .fails
 
-  pub stepping-numbers : RefuseWith (steppingRules t i m space x) (19 ∷ 1 ∷ 2 ∷ 3 ∷ 17 ∷ 4 ∷ 5 ∷ 6 ∷ 7 ∷ 12 ∷ 13 ∷ 20 ∷ 8 ∷ [])
+  pub stepping-numbers :
+      (n : ℕ) → OneOf (numbersOf (steppingRules t i m space x)) n
+      → OneOf (19 ∷ 1 ∷ 2 ∷ 3 ∷ 17 ∷ 4 ∷ 5 ∷ 6 ∷ 7 ∷ 12 ∷ 13 ∷ 20 ∷ 8 ∷ 14 ∷ 15 ∷ 16 ∷ 21 ∷ []) n
   unfolding shapeRules valueRules
-  stepping-numbers = refuse-with (steppingRules t i m space x) _ refl refl
+  stepping-numbers n o =
+      ⊎-elim (λ a. are-of _ (19 ∷ 1 ∷ 1 ∷ 2 ∷ 3 ∷ 3 ∷ 17 ∷ 4 ∷ 5 ∷ 6 ∷ 7 ∷ 12 ∷ 13 ∷ 20 ∷ 8 ∷ []) refl n a)
+      (λ a. are-of _ (14 ∷ 15 ∷ 16 ∷ 12 ∷ 21 ∷ []) refl n (lent-numbers (x .book) (x .length) (m .total) n a))
+      (one-append (19 ∷ 1 ∷ 1 ∷ 2 ∷ 3 ∷ 3 ∷ 17 ∷ 4 ∷ 5 ∷ 6 ∷ 7 ∷ 12 ∷ 13 ∷ 20 ∷ 8 ∷ []) (numbersOf (lentRules (x .book) (x .length) (m .total))) n .0 o)
+
+  -- and with each of them, told a length of a block or more
+  pub stepping-refuse-with :
+      512 ≤ x .length → RefuseWith (steppingRules t i m space x) (19 ∷ 1 ∷ 2 ∷ 3 ∷ 17 ∷ 4 ∷ 5 ∷ 6 ∷ 7 ∷ 12 ∷ 13 ∷ 20 ∷ 8 ∷ 14 ∷ 15 ∷ 16 ∷ 21 ∷ [])
+  unfolding shapeRules valueRules
+  stepping-refuse-with h n = (
+    stepping-numbers n,
+    λ o.
+        one-append (19 ∷ 1 ∷ 1 ∷ 2 ∷ 3 ∷ 3 ∷ 17 ∷ 4 ∷ 5 ∷ 6 ∷ 7 ∷ 12 ∷ 13 ∷ 20 ∷ 8 ∷ []) (numbersOf (lentRules (x .book) (x .length) (m .total))) n .1
+        (⊎-elim (λ a. inl (are-of _ (19 ∷ 1 ∷ 2 ∷ 3 ∷ 17 ∷ 4 ∷ 5 ∷ 6 ∷ 7 ∷ 12 ∷ 13 ∷ 20 ∷ 8 ∷ []) refl n a))
+        (λ a. inr (lent-refuse-with (x .book) (x .length) (m .total) h n .1 (are-of _ (14 ∷ 15 ∷ 16 ∷ 21 ∷ []) refl n a)))
+        (one-append (19 ∷ 1 ∷ 2 ∷ 3 ∷ 17 ∷ 4 ∷ 5 ∷ 6 ∷ 7 ∷ 12 ∷ 13 ∷ 20 ∷ 8 ∷ []) (14 ∷ 15 ∷ 16 ∷ 21 ∷ []) n .0 o)),
+  )
+
+  -- 21 comes last, and only where every other check has passed
+  pub stepping-full : (place : ℕ) → (w ≡ Fail 21 place) ↔ ((place ≡ 0) × SteppingFull t i m space x)
+  unfolding steppingVerdict stepVerdictWith
+  stepping-full place =
+      let d = with-full c source 20 (source-decides (x .source) (newTotal c) space) (λ q. omega arith) place in
+      let f = both-fails (checkOpened i m) (both (checkSameCells (cells (x .lists)) (t .cells)) (stepVerdictWith (source ∷ []) c)) in (
+        λ e.
+            let a = f 19 21 place (λ n p q. opened-decides i m .fails n p .0 q .0) (λ q. omega arith) e in
+            let b = both-fails (checkSameCells (cells (x .lists)) (t .cells)) (stepVerdictWith (source ∷ []) c) 1 21 place (λ n p q. same-cells-decides (cells (x .lists)) (t .cells) .fails n p .0 q .0) (λ q. omega arith) (a .1) in
+            let o = opened-decides i m .passes .0 (a .0) in
+            let z = d .0 (b .1) in (
+              z .0,
+              record {
+                number = o .0;
+                is-open = o .1;
+                same-cells = same-cells-decides (cells (x .lists)) (t .cells) .passes .0 (b .0);
+                stepping = z .1 .0;
+                within = z .1 .1;
+              },
+            ),
+        λ h.
+            sym
+            (on (opened-decides i m .passes .1 (h .1 .number, h .1 .is-open))
+            (on (same-cells-decides (cells (x .lists)) (t .cells) .passes .1 (h .1 .same-cells)) (sym (d .1 (h .0, (h .1 .stepping, h .1 .within)))))),
+      )
 
 -- ---- a registration
 

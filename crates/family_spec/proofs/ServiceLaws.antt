@@ -17,14 +17,13 @@ use Rattle.numbers.specs.Lists.{sum, All}
 use Rattle.numbers.specs.Checks.{Answered, accepted, refused, answered, after}
 use Rattle.numbers.proofs.TestLaws.{Tested, holds, fails, tested, not-so, clash, and-second}
 use Rattle.kept_spec.specs.declared.Stepped.{Stepped}
-use Rattle.kept_spec.specs.Step.{newTotal}
+use Rattle.kept_spec.specs.Step.{newTotal, stepTells}
 use Rattle.kept_spec.specs.Run.{Run, collect}
 use Rattle.kept_spec.proofs.RunLaws.{all-map}
 use Rattle.family_spec.specs.declared.Member.{Member}
 use Rattle.family_spec.specs.declared.Family.{Family}
 use Rattle.family_spec.specs.declared.Registered.{Registered}
 use Rattle.family_spec.specs.declared.Registered.the-variants as registered
-use Rattle.family_spec.specs.declared.NextMember.the-variants as next
 use Rattle.family_spec.specs.declared.Turned.{Turned}
 use Rattle.family_spec.specs.declared.Turned.the-variants.{Idle, Served}
 use Rattle.family_spec.specs.declared.FamilyOpened.{FamilyOpened}
@@ -35,7 +34,7 @@ use Rattle.family_spec.specs.Family.{openWith, memberAt, put, schedule, 
 use Rattle.family_spec.specs.Waiting.{waits, withBit, withoutBit, membersWaiting}
 use Rattle.family_spec.specs.Member.{checkOpened, StepInputs, callOf}
 use Rattle.family_spec.specs.Operations.{openMemberVerdict, OpenMemberContract, stepMemberVerdict, StepMemberContract, registerVerdict, registerTells, RegisterContract, nextMember, waitingCount, TurnContract}
-use Rattle.family_spec.specs.History.{FamilyEvent, FamilyStanding, FamilyMoves, turnsOf, turnsIn, servedOf, servedIn}
+use Rattle.family_spec.specs.History.{FamilyEvent, FamilyStanding, FamilyMoves, turnsOf, turnsIn, servedOf, servedIn, lengthsAfter}
 use Rattle.family_spec.specs.Claims.{IsOpen, Waits, isDone, waitsAfterCall, waitsAfter, Distinct, NotYetServed, ServedWithin8, searchFrom, WaitingOpen, TurnIdle}
 use Rattle.family_spec.proofs.RuleLaws.{opened-decides}
 use Rattle.family_spec.proofs.AnswerLaws.{register-tells-injective}
@@ -55,10 +54,10 @@ head-same e = cc
 -- ---- of any family
 
 -- a turn says so exactly if nobody waits
-pub turn-idle : (f : Family) (x : StepInputs) (r : FamilyTurned) (kept : List ℕ) (scratch : List ℤ) → TurnContract f x r kept scratch → TurnIdle f x r kept scratch
-turn-idle f x r kept scratch = by-answer (r .answer)
+pub turn-idle : (f : Family) (x : StepInputs) (r : FamilyTurned) (kept : List ℕ) (scratch : List ℤ) (book : List ℕ) → TurnContract f x r kept scratch book → TurnIdle f x r kept scratch book
+turn-idle f x r kept scratch book = by-answer (r .answer)
   where
-    by-answer : (a : Turned) → TurnContract f x (record { family = r .family; answer = a }) kept scratch → TurnIdle f x (record { family = r .family; answer = a }) kept scratch
+    by-answer : (a : Turned) → TurnContract f x (record { family = r .family; answer = a }) kept scratch book → TurnIdle f x (record { family = r .family; answer = a }) kept scratch book
     by-answer Idle p =
         let z = turn-idles p in
         record {
@@ -67,6 +66,7 @@ turn-idle f x r kept scratch = by-answer (r .answer)
           same-family = λ e. z .gives;
           same-kept = λ e. z .keeps;
           same-scratch = λ e. z .leaves;
+          same-book = λ e. z .files;
         }
     by-answer (Served i a) p =
         let z = turn-serves p in
@@ -76,6 +76,7 @@ turn-idle f x r kept scratch = by-answer (r .answer)
           same-family = λ e. absurd (idle-apart e refl);
           same-kept = λ e. absurd (idle-apart e refl);
           same-scratch = λ e. absurd (idle-apart e refl);
+          same-book = λ e. absurd (idle-apart e refl);
         }
 
 -- who is registered and waits changes nothing by registering
@@ -134,7 +135,7 @@ open-turn {f} {i} {kept} {k} p = subst (SameTurn f) (sym (p .gives)) (put-turn f
 
 -- 'Outside a turn a step serves nobody' (02)
 pub step-turn :
-    {f : Family} {i : ℕ} {x : StepInputs} {r : FamilyStepped} {kept : List ℕ} {scratch : List ℤ} → StepMemberContract f i x r kept scratch → SameTurn f (r .family)
+    {f : Family} {i : ℕ} {x : StepInputs} {r : FamilyStepped} {kept : List ℕ} {scratch : List ℤ} {book : List ℕ} → StepMemberContract f i x r kept scratch book → SameTurn f (r .family)
 step-turn {f} {i} {x} p = subst (SameTurn f) (sym (p .gives)) (put-turn f i (openWith (newTotal (callOf (terms f) (memberAt f i) x))) (stepMemberVerdict f i x))
 
 -- a registration sets its member's bit or does nothing
@@ -157,7 +158,7 @@ pub register-adds : {f : Family} {i : ℕ} {r : FamilyRegistered} → Scheduled 
 register-adds {f} {i} q p = subst (Adds f) (sym (p .gives)) (register-by f i (registerVerdict f i) refl q)
 
 -- a turn that served m
-module _ {f : Family} {x : StepInputs} {g : Family} {m : ℕ} {answer : Stepped} {kept : List ℕ} {scratch : List ℤ} (p : TurnContract f x (record { family = g; answer = Served m answer }) kept scratch) where
+module _ {f : Family} {x : StepInputs} {g : Family} {m : ℕ} {answer : Stepped} {kept : List ℕ} {scratch : List ℤ} {book : List ℕ} (p : TurnContract f x (record { family = g; answer = Served m answer }) kept scratch book) where
   pub served-byte : g .waiting ≡ withoutBit (f .waiting) m
   served-byte = let t = turn-serves p in ap (λ h. h .waiting) (t .ends) ∙ ap (λ b. withoutBit b m) (step-turn (t .contract) .waiting)
 
@@ -174,10 +175,11 @@ module _ {f : Family} {x : StepInputs} {g : Family} {m : ℕ} {answer : Stepped}
 
 pub moves-scheduled : {s t : FamilyStanding} {e : FamilyEvent} → Scheduled (s .family) → FamilyMoves s e t → Scheduled (t .family)
 moves-scheduled q (FamilyMoves.opens p) = same-scheduled (open-turn p) q
-moves-scheduled q (FamilyMoves.steps p z) = same-scheduled (step-turn p) q
+moves-scheduled q (FamilyMoves.steps p z u k) = same-scheduled (step-turn p) q
 moves-scheduled q (FamilyMoves.registers p) = register-adds q p .scheduled
-moves-scheduled q (FamilyMoves.serves p z) = served-scheduled p q
+moves-scheduled q (FamilyMoves.serves p z u k) = served-scheduled p q
 moves-scheduled q (FamilyMoves.idles p) = subst Scheduled (sym (turn-idles p .gives)) q
+moves-scheduled q (FamilyMoves.books p t o f) = q
 
 pub run-scheduled : {s t : FamilyStanding} {es : List FamilyEvent} → Scheduled (s .family) → Run FamilyMoves s es t → Scheduled (t .family)
 run-scheduled q Run.done = q
@@ -194,10 +196,11 @@ data Turn (i : ℕ) (s : FamilyStanding) (e : FamilyEvent) (t : FamilyStanding) 
 
 waits-on : (i : ℕ) {s t : FamilyStanding} {e : FamilyEvent} → i < 8 → Scheduled (s .family) → Waits s i → FamilyMoves s e t → Turn i s e t
 waits-on i l q h (FamilyMoves.opens p) = let z = open-turn p in Turn.quiet refl refl (ap (λ b. waits b i) (z .waiting) ∙ h) (z .from)
-waits-on i l q h (FamilyMoves.steps p k) = let z = step-turn p in Turn.quiet refl refl (ap (λ b. waits b i) (z .waiting) ∙ h) (z .from)
+waits-on i l q h (FamilyMoves.steps p z u k) = let y = step-turn p in Turn.quiet refl refl (ap (λ b. waits b i) (y .waiting) ∙ h) (y .from)
 waits-on i l q h (FamilyMoves.registers p) = let z = register-adds q p in Turn.quiet refl refl (z .waiting i l h) (z .from)
+waits-on i l q h (FamilyMoves.books p t o f) = Turn.quiet refl refl h refl
 waits-on i {s} l q h (FamilyMoves.idles p) = absurd (clash h (nobody-next (s .family) .0 (turn-idles p .due) i l))
-waits-on i {s} l q h (FamilyMoves.serves {x = x} {g} {i = m} {answer} {kept} {scratch} {all} p z) = by-member (ℕ-discrete m i)
+waits-on i {s} l q h (FamilyMoves.serves {x = x} {g} {i = m} {answer} {kept} {scratch} {book} {all} {books} p z u k) = by-member (ℕ-discrete m i)
   where
     y : ℕ
     y = s .family .from
@@ -208,7 +211,8 @@ waits-on i {s} l q h (FamilyMoves.serves {x = x} {g} {i = m} {answer} {kept} {sc
     at : m ≡ (y + r .places) % 8
     at = unfold nextMember in (member-same (turn-serves p .due) (r .found)) ∙ r .at
 
-    by-member : Dec (m ≡ i) → Turn i s (FamilyEvent.turns (s .family) x (record { family = g; answer = Served m answer }) kept scratch) (record { family = g; kept = all })
+    by-member : Dec (m ≡ i) → Turn i s (FamilyEvent.turns (s .family) x (record { family = g; answer = Served m answer }) kept scratch book)
+        (record { family = g; kept = all; book = books; length = lengthsAfter (s .length) m (stepTells answer) })
     by-member (yes e) = Turn.own (ap (λ n. n ∷ []) e)
     by-member (no n) =
         Turn.other m refl refl n
@@ -329,7 +333,7 @@ register-told (Fail n p) (registered.Refused m q) e i j byte l k b = refl
 
 moves-waits : (i : ℕ) {s t : FamilyStanding} {e : FamilyEvent} → i < 8 → Scheduled (s .family) → FamilyMoves s e t → waits (t .family .waiting) i ≡ waitsAfterCall i (waits (s .family .waiting) i) e
 moves-waits i l q (FamilyMoves.opens p) = ap (λ b. waits b i) (open-turn p .waiting)
-moves-waits i l q (FamilyMoves.steps p z) = ap (λ b. waits b i) (step-turn p .waiting)
+moves-waits i l q (FamilyMoves.steps p z u k) = ap (λ b. waits b i) (step-turn p .waiting)
 moves-waits i {s} l q (FamilyMoves.registers {i = j} {r} p) =
     let v = registerVerdict (s .family) j in
     ap (λ g. waits (g .waiting) i) (p .gives) ∙ by-verdict v
@@ -338,8 +342,9 @@ moves-waits i {s} l q (FamilyMoves.registers {i = j} {r} p) =
     by-verdict : (v : Checked) → waits ((after v (schedule (s .family) (withBit (s .family .waiting) j) (s .family .from)) (s .family)) .waiting) i ≡ waits (after v (withBit (s .family .waiting) j) (s .family .waiting)) i
     by-verdict Pass = refl
     by-verdict (Fail n p) = refl
-moves-waits i {s} l q (FamilyMoves.serves {i = m} p z) = ap (λ b. waits b i) (served-byte p) ∙ clear-bit (s .family .waiting) m (q .byte) (served-below p) i l
+moves-waits i {s} l q (FamilyMoves.serves {i = m} p z u k) = ap (λ b. waits b i) (served-byte p) ∙ clear-bit (s .family .waiting) m (q .byte) (served-below p) i l
 moves-waits i l q (FamilyMoves.idles p) = ap (λ g. waits (g .waiting) i) (turn-idles p .gives)
+moves-waits i l q (FamilyMoves.books p t o f) = refl
 
 pub run-waits : (i : ℕ) {s t : FamilyStanding} {es : List FamilyEvent} → i < 8 → Scheduled (s .family) → Run FamilyMoves s es t → waits (t .family .waiting) i ≡ waitsAfter i (waits (s .family .waiting) i) es
 unfolding waitsAfter
@@ -356,10 +361,11 @@ search-append x (i ∷ is) js = search-append (suc i % 8) is js
 moves-from : {s t : FamilyStanding} {e : FamilyEvent} → Scheduled (s .family) → FamilyMoves s e t → t .family .from ≡ searchFrom (s .family .from) (servedOf e)
 unfolding searchFrom
 moves-from q (FamilyMoves.opens p) = open-turn p .from
-moves-from q (FamilyMoves.steps p z) = step-turn p .from
+moves-from q (FamilyMoves.steps p z u k) = step-turn p .from
 moves-from q (FamilyMoves.registers p) = register-adds q p .from
-moves-from q (FamilyMoves.serves p z) = served-from p
+moves-from q (FamilyMoves.serves p z u k) = served-from p
 moves-from q (FamilyMoves.idles p) = ap (λ g. g .from) (turn-idles p .gives)
+moves-from q (FamilyMoves.books p t o f) = refl
 
 pub run-from : {s t : FamilyStanding} {es : List FamilyEvent} → Scheduled (s .family) → Run FamilyMoves s es t → t .family .from ≡ searchFrom (s .family .from) (servedIn es)
 unfolding searchFrom collect
@@ -372,7 +378,7 @@ run-from {s} q (Run.step {e = e} {es = es} m r) =
 -- whoever waits after a call waited before it, or is open
 waited-or-open : {s t : FamilyStanding} {e : FamilyEvent} → Scheduled (s .family) → FamilyMoves s e t → (i : ℕ) → i < 8 → Waits t i → Waits s i ⊎ (IsOpen s i ≡ true)
 waited-or-open q (FamilyMoves.opens p) i l h = inl (sym (ap (λ b. waits b i) (open-turn p .waiting)) ∙ h)
-waited-or-open q (FamilyMoves.steps p z) i l h = inl (sym (ap (λ b. waits b i) (step-turn p .waiting)) ∙ h)
+waited-or-open q (FamilyMoves.steps p z u k) i l h = inl (sym (ap (λ b. waits b i) (step-turn p .waiting)) ∙ h)
 waited-or-open {s} q (FamilyMoves.registers {i = j} p) i l h = by-verdict (registerVerdict (s .family) j) refl (sym (ap (λ g. waits (g .waiting) i) (p .gives)) ∙ h)
   where
     by-verdict : (v : Checked) → registerVerdict (s .family) j ≡ v → waits ((after v (schedule (s .family) (withBit (s .family .waiting) j) (s .family .from)) (s .family)) .waiting) i ≡ true → Waits s i ⊎ (IsOpen s i ≡ true)
@@ -384,9 +390,10 @@ waited-or-open {s} q (FamilyMoves.registers {i = j} p) i l h = by-verdict (regis
         by-test : Tested (eqb i j) → memberAt (s .family) j .opened ≡ true → (eqb i j || waits (s .family .waiting) i) ≡ true → Waits s i ⊎ (IsOpen s i ≡ true)
         by-test (holds t) o x = inr (ap (λ n. memberAt (s .family) n .opened) (eqb-true i j t) ∙ o)
         by-test (fails t) o x = inl (sym (ap (λ y. y || waits (s .family .waiting) i) t) ∙ x)
-waited-or-open {s} q (FamilyMoves.serves {i = m} p z) i l h =
+waited-or-open {s} q (FamilyMoves.serves {i = m} p z u k) i l h =
     inl (and-second (not (eqb i m)) (waits (s .family .waiting) i) (sym (ap (λ b. waits b i) (served-byte p) ∙ clear-bit (s .family .waiting) m (q .byte) (served-below p) i l) ∙ h))
 waited-or-open q (FamilyMoves.idles p) i l h = inl (sym (ap (λ g. waits (g .waiting) i) (turn-idles p .gives)) ∙ h)
+waited-or-open q (FamilyMoves.books p t o f) i l h = inl h
 
 pub run-waiting-open : {s t : FamilyStanding} {es : List FamilyEvent} → Eight (s .family) → Scheduled (s .family) → WaitingOpen s → Run FamilyMoves s es t → WaitingOpen t
 run-waiting-open h q o Run.done = o

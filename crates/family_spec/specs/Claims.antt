@@ -8,8 +8,10 @@ use lib.Dec.{eqb}
 use lib.IntN.{ℤ}
 use lib.ListN.{length}
 use Rattle.numbers.specs.Lists.{All}
+use Rattle.book_spec.specs.Book.{book}
 use Rattle.kept_spec.specs.declared.Balance.{Balance}
 use Rattle.kept_spec.specs.Account.{Standing, Account}
+use Rattle.kept_spec.specs.BookRun.{StartEvent, Act, Ledger, ledger, BookAccount, bookAfter}
 use Rattle.family_spec.specs.declared.Family.{Family}
 use Rattle.family_spec.specs.declared.Started.the-variants.{Done}
 use Rattle.family_spec.specs.declared.Registered.{Registered}
@@ -22,12 +24,14 @@ use Rattle.family_spec.specs.Family.{memberAt, totalOf, terms}
 use Rattle.family_spec.specs.Waiting.{waits}
 use Rattle.family_spec.specs.Member.{StepInputs}
 use Rattle.family_spec.specs.Operations.{StartContract, nextMember}
-use Rattle.family_spec.specs.History.{FamilyEvent, FamilyStanding, openingsOf, stepsOf, turnsIn, servedOf, servedIn}
+use Rattle.family_spec.specs.History.{FamilyEvent, FamilyStanding, openingsOf, stepsOf, turnsIn, servedOf, servedIn, actsOf}
 
--- an accepted start, with which every history begins: no masses are kept
+-- an accepted start, with which every history begins: no masses are kept, and no book
 pub record Begins (cap scale cells : ℕ) (s : FamilyStanding) : Type 0 where
   pub contract : StartContract cap scale cells (record { family = s .family; answer = Done })
   pub empty : (i : ℕ) → s .kept i ≡ []
+  pub no-book : (i : ℕ) → s .book i ≡ []
+  pub no-length : (i : ℕ) → s .length i ≡ 0
 
 abbrev pub IsOpen : FamilyStanding → ℕ → Bool
 IsOpen s i = memberAt (s .family) i .opened
@@ -36,12 +40,19 @@ IsOpen s i = memberAt (s .family) i .opened
 abbrev pub standing : FamilyStanding → ℕ → Standing
 standing s i = record { kept = s .kept i; balance = record { total = totalOf (s .family) i; scale = s .family .scale } }
 
+-- and with its book
+abbrev pub ledgerAt : FamilyStanding → ℕ → Ledger
+ledgerAt s i = ledger (standing s i) (s .book i) (s .length i)
+
 -- 'Each member keeps the whole account of its own run, sources and bounds' (02): one opening of it was accepted, at the family's scale, and
--- demand 3's account holds of that opening, of the member's Steps and of its masses and balance at the end
+-- demand 3's account holds of that opening, of the member's Steps and of its masses and balance at the end; from any start of a book on, the
+-- buffer that it holds has the book of its accepted steps since the last start, which closes with the sum of its masses
 pub record MemberAccount (i : ℕ) (es : List FamilyEvent) (end : FamilyStanding) : Type 0 where
   pub opening : Balance
   pub once : openingsOf i es ≡ opening ∷ []
   pub account : Account opening (stepsOf (terms (end .family)) i es) (standing end i)
+  pub books : (before rest : List Act) (e : StartEvent) → actsOf (terms (end .family)) i es ≡ before ++ (Act.starts e ∷ rest)
+      → BookAccount (bookAfter rest (book (e .total) [])) (ledgerAt end i)
 
 -- ---- turns
 
@@ -64,9 +75,10 @@ waitsAfterTurn i b (Served j answer) = not (eqb i j) && b
 
 abbrev pub waitsAfterCall : ℕ → Bool → FamilyEvent → Bool
 waitsAfterCall i b (FamilyEvent.opens f j kept k r) = b
-waitsAfterCall i b (FamilyEvent.steps f j x r kept scratch) = b
+waitsAfterCall i b (FamilyEvent.steps f j x r kept scratch book) = b
 waitsAfterCall i b (FamilyEvent.registers f j r) = (isDone (r .answer) && eqb i j) || b
-waitsAfterCall i b (FamilyEvent.turns f x r kept scratch) = waitsAfterTurn i b (r .answer)
+waitsAfterCall i b (FamilyEvent.turns f x r kept scratch book) = waitsAfterTurn i b (r .answer)
+waitsAfterCall i b (FamilyEvent.books f j e) = b
 
 unfoldable pub waitsAfter : ℕ → Bool → List FamilyEvent → Bool
 waitsAfter i b [] = b
@@ -115,9 +127,10 @@ abbrev pub WaitingOpen : FamilyStanding → Type 0
 WaitingOpen s = (i : ℕ) → i < 8 → Waits s i → IsOpen s i ≡ true
 
 -- a turn is idle exactly if nobody waits, and exactly if the reading of the next says nobody; it then changes nothing
-pub record TurnIdle (f : Family) (x : StepInputs) (r : FamilyTurned) (kept : List ℕ) (scratch : List ℤ) : Type 0 where
+pub record TurnIdle (f : Family) (x : StepInputs) (r : FamilyTurned) (kept : List ℕ) (scratch : List ℤ) (book : List ℕ) : Type 0 where
   pub nobody-waits : (r .answer ≡ Idle) ↔ NobodyWaits f
   pub nobody-next : (r .answer ≡ Idle) ↔ (nextMember f ≡ next.Nobody)
   pub same-family : r .answer ≡ Idle → r .family ≡ f
   pub same-kept : r .answer ≡ Idle → kept ≡ x .kept
   pub same-scratch : r .answer ≡ Idle → scratch ≡ x .scratch
+  pub same-book : r .answer ≡ Idle → book ≡ x .book

@@ -59,15 +59,18 @@ pub record StepInputs : Type 0 where
   pub scale : ℕ
   pub lists : Lists
   pub scratch : List ℤ
+  pub book : List ℕ
+  pub length : ℕ
 
-abbrev pub stepInputs : List ℕ → ℤ → ℕ → Lists → List ℤ → StepInputs
-stepInputs kept source scale lists scratch = record { kept = kept; source = source; scale = scale; lists = lists; scratch = scratch }
+abbrev pub stepInputs : List ℕ → ℤ → ℕ → Lists → List ℤ → List ℕ → ℕ → StepInputs
+stepInputs kept source scale lists scratch book l =
+    record { kept = kept; source = source; scale = scale; lists = lists; scratch = scratch; book = book; length = l }
 
 -- the Step that it is: of the balance that the family holds
 abbrev pub callOf : Terms → Member → StepInputs → StepCall
-callOf t m x = stepCall (record { total = m .total; scale = t .scale }) (x .kept) (x .source) (x .scale) (x .lists) (x .scratch)
+callOf t m x = stepCall (record { total = m .total; scale = t .scale }) (x .kept) (x .source) (x .scale) (x .lists) (x .scratch) (x .book) (x .length)
 
--- 19; Step's checks, where 1 counts another n too and 20 comes between 13 and 8
+-- 19; Step's checks, where 1 counts another n too and 20 comes between 13 and 8; those of the book come last
 abbrev pub steppingChecks : Terms → ℕ → Member → ℤ → StepInputs → List Checked
 steppingChecks t i m space x =
     checkOpened i m

@@ -8,6 +8,7 @@ use lib.IntN.{ℤ}
 use Rattle.numbers.specs.declared.Checked.{Checked}
 use Rattle.numbers.specs.Lists.{sum}
 use Rattle.numbers.specs.Checks.{Answered, accepted, refused, answered, after, first, checkCount, checkScale}
+use Rattle.book_spec.specs.Book.{book}
 use Rattle.kept_spec.specs.Open.{OpenBy}
 use Rattle.kept_spec.specs.Step.{newTotal, StepResult, StepBy}
 use Rattle.family_spec.specs.declared.Family.{Family}
@@ -66,8 +67,8 @@ abbrev pub stepMemberVerdict : Family → ℕ → StepInputs → Checked
 stepMemberVerdict f i x = steppingVerdict (terms f) i (memberAt f i) (room f i) x
 
 -- it answers and leaves what the Step of the member's balance does, by the family's verdict
-pub record StepMemberContract (f : Family) (i : ℕ) (x : StepInputs) (r : FamilyStepped) (kept : List ℕ) (scratch : List ℤ) : Type 0 where
-  pub tells : StepBy (stepMemberVerdict f i x) (callOf (terms f) (memberAt f i) x) (r .answer) kept scratch
+pub record StepMemberContract (f : Family) (i : ℕ) (x : StepInputs) (r : FamilyStepped) (kept : List ℕ) (scratch : List ℤ) (book : List ℕ) : Type 0 where
+  pub tells : StepBy (stepMemberVerdict f i x) (callOf (terms f) (memberAt f i) x) (r .answer) kept scratch book
   pub gives : r .family ≡ after (stepMemberVerdict f i x) (put f i (openWith (newTotal (callOf (terms f) (memberAt f i) x)))) f
 
 -- ---- register, of member i: 19
@@ -105,22 +106,23 @@ abbrev pub serve : Family → ℕ → Family
 serve f i = schedule f (withoutBit (f .waiting) i) (suc i % 8)
 
 -- nobody waits: nothing changes
-pub record IdleTurn (f : Family) (x : StepInputs) (r : FamilyTurned) (kept : List ℕ) (scratch : List ℤ) : Type 0 where
+pub record IdleTurn (f : Family) (x : StepInputs) (r : FamilyTurned) (kept : List ℕ) (scratch : List ℤ) (book : List ℕ) : Type 0 where
   pub answers : r .answer ≡ Idle
   pub gives : r .family ≡ f
   pub keeps : kept ≡ x .kept
   pub leaves : scratch ≡ x .scratch
+  pub files : book ≡ x .book
 
 -- member i is served: its step is called, accepted or not
-pub record ServingTurn (f : Family) (i : ℕ) (x : StepInputs) (r : FamilyTurned) (kept : List ℕ) (scratch : List ℤ) : Type 0 where
+pub record ServingTurn (f : Family) (i : ℕ) (x : StepInputs) (r : FamilyTurned) (kept : List ℕ) (scratch : List ℤ) (book : List ℕ) : Type 0 where
   pub step : FamilyStepped
-  pub contract : StepMemberContract f i x step kept scratch
+  pub contract : StepMemberContract f i x step kept scratch book
   pub answers : r .answer ≡ Served i (step .answer)
   pub gives : r .family ≡ serve (step .family) i
 
-abbrev pub TurnBy : NextMember → Family → StepInputs → FamilyTurned → List ℕ → List ℤ → Type 0
-TurnBy next.Nobody f x r kept scratch = IdleTurn f x r kept scratch
-TurnBy (next.Member i) f x r kept scratch = ServingTurn f i x r kept scratch
+abbrev pub TurnBy : NextMember → Family → StepInputs → FamilyTurned → List ℕ → List ℤ → List ℕ → Type 0
+TurnBy next.Nobody f x r kept scratch book = IdleTurn f x r kept scratch book
+TurnBy (next.Member i) f x r kept scratch book = ServingTurn f i x r kept scratch book
 
-pub record TurnContract (f : Family) (x : StepInputs) (r : FamilyTurned) (kept : List ℕ) (scratch : List ℤ) : Type 0 where
-  pub serves-next : TurnBy (nextMember f) f x r kept scratch
+pub record TurnContract (f : Family) (x : StepInputs) (r : FamilyTurned) (kept : List ℕ) (scratch : List ℤ) (book : List ℕ) : Type 0 where
+  pub serves-next : TurnBy (nextMember f) f x r kept scratch book

@@ -11,7 +11,7 @@ use Rattle.numbers.specs.Lists.{sum}
 use Rattle.numbers.specs.Checks.{Rule, rule}
 use Rattle.qlt_spec.specs.Field.{cells}
 use Rattle.kept_spec.specs.Open.{openRulesWith, OpenFits}
-use Rattle.kept_spec.specs.Step.{newTotal, scaleRule, stepRulesWith, StepFits}
+use Rattle.kept_spec.specs.Step.{newTotal, scaleRule, stepRulesWith, StepFits, StepFull}
 use Rattle.family_spec.specs.declared.Member.{Member}
 use Rattle.family_spec.specs.Family.{Terms}
 use Rattle.family_spec.specs.Member.{StepInputs, callOf}
@@ -61,6 +61,14 @@ pub record SteppingFits (t : Terms) (i : ℕ) (m : Member) (space : ℤ) (x : St
   pub is-open : m .opened ≡ true
   pub same-cells : cells (x .lists) ≡ t .cells
   pub stepping : StepFits (callOf t m x)
+  pub within : SourceFits t m space x
+
+-- every check passes but the last, 21
+pub record SteppingFull (t : Terms) (i : ℕ) (m : Member) (space : ℤ) (x : StepInputs) : Type 0 where
+  pub number : i ≤ 7
+  pub is-open : m .opened ≡ true
+  pub same-cells : cells (x .lists) ≡ t .cells
+  pub stepping : StepFull (callOf t m x)
   pub within : SourceFits t m space x
 
 -- ---- a registration

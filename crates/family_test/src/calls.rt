@@ -1,6 +1,11 @@
 // The calls: a member and a kind drawn, an opening, a registration, a step or a turn made, and what it told counted.
-ghost use Prim.Native.Nat.{_≤_};
+ghost use Prim.Native.Nat.{_+_, _≤_};
+ghost use lib.ListN.{length};
 use crate::Run;
+use crate::books::keep_length;
+use crate::books::length_of;
+use crate::books::place;
+use crate::books::start;
 use crate::faults::given_cells;
 use crate::faults::given_nodes;
 use crate::faults::given_number;
@@ -147,12 +152,14 @@ fn open_by(family: Family, number: u32, masses: &[u32; 8], cells: usize, scale: 
     open_member(family, number, &all[0..cells], scale)
 }
 
-// Draws masses, and opens the member with them.
+// Draws masses, and opens the member with them; its book opens with their total.
 fn open_call(
     run: Run,
     state: u32,
     member: u32,
     kept: &mut [u32; 64],
+    books: &mut [u8; 262144],
+    lengths: &mut [usize; 8],
     counts: &mut [u32; 21],
 ) -> Run {
     let mut masses = [0u32; 8];
@@ -171,6 +178,7 @@ fn open_call(
     match answer {
         Opened::Accepted(balance) => {
             store(&masses, member, kept);
+            start(balance.total, member, books, lengths);
             let told = taken(taken(run.told, balance.total as u64), balance.scale as u64);
             accepted(run, drawn.state, opened.family, told, 0)
         }
@@ -219,8 +227,8 @@ fn taken_repair(told: u64, repair: Repair) -> u64 {
     taken(taken(first, repair.change), repair.shared)
 }
 
-// Steps a member, or the next in turn, by the first cells of the targets, the first nodes of the parents, and a scratch of its own; what a step by
-// itself tells is given as a turn that served its member.
+// Steps a member, or the next in turn, by the first cells of the targets, the first nodes of the parents, a scratch of its own and the book that begins at a
+// place of the books; what a step by itself tells is given as a turn that served its member.
 fn step_by(
     family: Family,
     by_turn: bool,
@@ -237,10 +245,15 @@ fn step_by(
     parents: &[u32; 15],
     cells: usize,
     m: usize,
-    length: usize,
+    room: usize,
+    books: &mut [u8],
+    at: usize,
+    told: usize,
 ) -> FamilyTurned
-    requires { ⌜ (cells ≤ 8) × (m ≤ 15) × (length ≤ 60) ⌝ }
+    requires { ⌜ (cells ≤ 8) × (m ≤ 15) × (room ≤ 60) ⌝ }
+    requires { ⌜ (at ≤ 229376) × (at + 32768 ≤ length (now books)) ⌝ }
 {
+    let end = at + 32768;
     let mut scratch = [0i64; 60];
     let all_targets = &targets[..];
     let all_parents = &parents[..];
@@ -257,7 +270,9 @@ fn step_by(
             safe_highs,
             weights,
             &all_parents[0..m],
-            &mut scratch[0..length],
+            &mut scratch[0..room],
+            &mut books[at..end],
+            told,
         );
     }
     let step = step_member(
@@ -273,7 +288,9 @@ fn step_by(
         safe_highs,
         weights,
         &all_parents[0..m],
-        &mut scratch[0..length],
+        &mut scratch[0..room],
+        &mut books[at..end],
+        told,
     );
     let stepped = step.answer;
     let after = step.family;
@@ -286,13 +303,13 @@ fn step_by(
     }
 }
 
-// The member whose masses are lent: the one drawn, or in a turn the next, if there is one.
+// The member whose masses and book are lent: the one drawn, or in a turn the next, if there is one.
 fn lent_member(family: Family, member: u32, by_turn: bool) -> u32 {
     let next = next_number(family);
     if by_turn && next < 8 { next } else { member }
 }
 
-// The run after a step that told this; if it was accepted, its masses are stored.
+// The run after a step that told this; if it was accepted, its masses and the length of its book are stored.
 fn stepped_run(
     run: Run,
     state: u32,
@@ -302,11 +319,17 @@ fn stepped_run(
     masses: &[u32; 8],
     lent: u32,
     kept: &mut [u32; 64],
+    lengths: &mut [usize; 8],
     counts: &mut [u32; 21],
 ) -> Run {
     match answer {
-        Stepped::Accepted { repair, balance: _ } => {
+        Stepped::Accepted {
+            repair,
+            balance: _,
+            length,
+        } => {
             store(masses, lent, kept);
+            keep_length(length, lent, lengths);
             accepted(
                 run,
                 state,
@@ -335,6 +358,8 @@ fn step_call(
     member: u32,
     by_turn: bool,
     kept: &mut [u32; 64],
+    books: &mut [u8; 262144],
+    lengths: &mut [usize; 8],
     turns: &mut [u32; 11],
     counts: &mut [u32; 21],
 ) -> Run {
@@ -383,6 +408,9 @@ fn step_call(
         given_cells(fault == 2),
         given_nodes(m, fault),
         given_scratch(m, fault),
+        books,
+        place(lent),
+        length_of(lengths, lent),
     );
     let answer = turned.answer;
     match answer {
@@ -401,6 +429,7 @@ fn step_call(
                 &masses,
                 lent,
                 kept,
+                lengths,
                 counts,
             )
         }
@@ -411,13 +440,15 @@ fn step_call(
 pub fn one_call(
     run: Run,
     kept: &mut [u32; 64],
+    books: &mut [u8; 262144],
+    lengths: &mut [usize; 8],
     turns: &mut [u32; 11],
     counts: &mut [u32; 21],
 ) -> Run {
     let member = draw(run.state, 8);
     let kind = draw(member.state, 16);
     if kind.value < 2 {
-        return open_call(run, kind.state, member.value, kept, counts);
+        return open_call(run, kind.state, member.value, kept, books, lengths, counts);
     }
     if kind.value < 6 {
         return register_call(run, kind.state, member.value, counts);
@@ -428,6 +459,8 @@ pub fn one_call(
         member.value,
         kind.value < 10,
         kept,
+        books,
+        lengths,
         turns,
         counts,
     )

@@ -6,14 +6,16 @@
 // number of all kept masses, a check number of all that was told and of the family after every call, with the next in turn and the number waiting,
 // and what the accepted steps have shared out; and at the end how many calls were refused with each number. In every line the sum must be the sum of
 // the totals and at most 66000, and the longest wait at most 8. `stdout` was written by an implementation of the papers' own words in another
-// language, and not by this program. Numbers stay far below the remainders by which overflow is ruled out. Relies on `turns` and `family`, which it
-// tests, `family_spec`, `kept_spec` and `qlt_spec` for the answers, `test_support`, `io` and `libc`, and `numbers` in proofs.
+// language, and not by this program. Each member has a book of its own, started from the total that it opens with and lent along with its steps;
+// nothing of it is printed. Numbers stay far below the remainders by which overflow is ruled out. Relies on `turns` and `family`, which it
+// tests, `book`, `family_spec`, `kept_spec`, `book_spec` and `qlt_spec` for the answers, `test_support`, `io` and `libc`, and `numbers` in proofs.
 use calls::one_call;
 use family::start_family;
 use family_spec::Family;
 use family_spec::Started;
 use waits::forget;
 
+mod books;
 mod calls;
 mod faults;
 mod masses;
@@ -35,13 +37,15 @@ pub struct Run {
 fn some_calls(
     run: Run,
     kept: &mut [u32; 64],
+    books: &mut [u8; 262144],
+    lengths: &mut [usize; 8],
     turns: &mut [u32; 11],
     counts: &mut [u32; 21],
 ) -> Run {
     let mut now = run;
     let mut i: usize = 0;
     while i < 500 {
-        now = one_call(now, kept, turns, counts);
+        now = one_call(now, kept, books, lengths, turns, counts);
         i += 1;
     }
     now
@@ -52,13 +56,15 @@ fn more_calls(
     run: Run,
     done: u64,
     kept: &mut [u32; 64],
+    books: &mut [u8; 262144],
+    lengths: &mut [usize; 8],
     turns: &mut [u32; 11],
     counts: &mut [u32; 21],
 ) -> Run {
     let mut now = run;
     let mut i: u64 = 0;
     while i < 4 {
-        now = some_calls(now, kept, turns, counts);
+        now = some_calls(now, kept, books, lengths, turns, counts);
         i += 1;
         output::show(done % 1000000 + i * 500, now, kept, turns);
     }
@@ -88,11 +94,21 @@ fn all_calls(family: Family, counts: &mut [u32; 21]) {
         shared: 0,
     };
     let mut turns = [0u32; 11];
+    let mut books = [0u8; 262144];
+    let mut lengths = [0usize; 8];
     let mut i: u64 = 0;
     while i < 8 {
         let mut kept = [0u32; 64];
         forget(&mut turns);
-        now = more_calls(afresh(now, family), i * 2000, &mut kept, &mut turns, counts);
+        now = more_calls(
+            afresh(now, family),
+            i * 2000,
+            &mut kept,
+            &mut books,
+            &mut lengths,
+            &mut turns,
+            counts,
+        );
         i += 1;
     }
 }

@@ -1,3 +1,1 @@
--- Laws for the operations' own functions.
-pub mod VerdictLaws
-pub mod TotalLaws
+pub mod StepLaws

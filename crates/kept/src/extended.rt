@@ -2,8 +2,8 @@
 ghost use mathlib.Core.List.{[], _∷_};
 ghost use Rattle.qlt_spec.specs.Field.{lists};
 ghost use Rattle.kept_spec.specs.Step.{stepCall, stepVerdictWith, StepBy};
-use crate::verdict::step_verdict;
 use crate::work::step_by;
+use kept_checks::verdict::step_verdict;
 use kept_spec::Balance;
 use kept_spec::Stepped;
 use numbers::Checked;
@@ -23,6 +23,8 @@ pub fn step_with(
     weights: &[u32],
     parents: &[u32],
     scratch: &mut [i64],
+    book: &mut [u8],
+    told: usize,
 ) -> Stepped
     ensures { λ r.
         ⌜ StepBy
@@ -30,12 +32,12 @@ pub fn step_with(
         (stepCall balance (now (kept .entry)) source scale
         (lists (now (targets .entry)) (now (lows .entry)) (now (highs .entry)) (now («safe_lows» .entry)) (now («safe_highs» .entry))
         (now (weights .entry)) (now (parents .entry)))
-        (now (scratch .entry))))
+        (now (scratch .entry)) (now (book .entry)) told))
         (stepCall balance (now (kept .entry)) source scale
         (lists (now (targets .entry)) (now (lows .entry)) (now (highs .entry)) (now («safe_lows» .entry)) (now («safe_highs» .entry))
         (now (weights .entry)) (now (parents .entry)))
-        (now (scratch .entry)))
-        r (now (kept .exit)) (now (scratch .exit)) ⌝ }
+        (now (scratch .entry)) (now (book .entry)) told)
+        r (now (kept .exit)) (now (scratch .exit)) (now (book .exit)) ⌝ }
 {
     let verdict = step_verdict(
         own,
@@ -51,6 +53,8 @@ pub fn step_with(
         weights,
         parents,
         scratch,
+        book,
+        told,
     );
     step_by(
         verdict,
@@ -66,5 +70,7 @@ pub fn step_with(
         weights,
         parents,
         scratch,
+        book,
+        told,
     )
 }

@@ -13,19 +13,20 @@ use Rattle.numbers.specs.declared.Checked.the-variants.{Pass, Fail}
 use Rattle.numbers.specs.Sums.{ℕ-adds, sumTo}
 use Rattle.numbers.specs.Signed.{over}
 use Rattle.numbers.specs.Checks.{Answered, accepted, refused, answered, after, Broken}
+use Rattle.numbers.specs.Lists.{sum}
 use Rattle.numbers.proofs.PartLaws.{part-whole}
 use Rattle.numbers.proofs.CheckLaws.{answered-refused, no-pass}
 use Rattle.qlt_spec.specs.Field.{Field, nodes, scratchPerNode, field, Meets}
 use Rattle.qlt_spec.specs.Masses.{treeMasses}
-use Rattle.numbers.specs.Lists.{sum}
 use Rattle.qlt_spec.specs.Operation.{cleared}
 use Rattle.qlt_spec.proofs.MissLaws.{meets-room, meets-neg}
 use Rattle.qlt_spec.proofs.FactLaws.{reachable-sums}
 use Rattle.qlt_spec.proofs.OperationLaws.{fits-valid}
+use Rattle.book_spec.specs.LentBook.{grownBuffer}
 use Rattle.kept_spec.specs.declared.Balance.{Balance}
 use Rattle.kept_spec.specs.declared.Opened.{Opened}
 use Rattle.kept_spec.specs.Open.{openTells, OpenContract}
-use Rattle.kept_spec.specs.Step.{StepCall, next, newTotal, stepVerdict, stepRules, StepFits, StepResult, stepResult, stepAnswer}
+use Rattle.kept_spec.specs.Step.{StepCall, next, newTotal, stepVerdict, stepRules, StepFits, StepResult, stepResult, stepAnswer, stepEntry, Typed, MassesFit}
 use Rattle.kept_spec.specs.Run.{Run, sumOf, Sound}
 use Rattle.kept_spec.specs.Account.{Event, Standing, told, Accepts, ForTotal, balanceAfter, gainBy, gain, Promised, Moves, Reachable, StepFacts, AtScale, Account}
 use Rattle.kept_spec.proofs.RunLaws.{run-keeps, run-gains, run-facts, all-map}
@@ -46,7 +47,7 @@ module _ (c : StepCall) where
   F = field (c .lists)
 
   -- a call that fits can be reached within its safety bounds
-  fits-reachable : StepFits c → Reachable c
+  fits-reachable : MassesFit c → Reachable c
   fits-reachable f =
       let l = f .shape .lengths in
       let t = reachable-sums F (fits-valid (f .shape) (f .values)) (f .values .order) (newTotal c) .1
@@ -54,13 +55,14 @@ module _ (c : StepCall) where
       (t .0, subst (λ z. Meets (F .n) (F .safeLow) (F .safeHigh) z (t .0)) (f .whole) (t .1))
 
   -- past 1 to 7, 17 and 12, a call that can be reached fits
-  reachable-fits : Past c → Reachable c → StepFits c
+  reachable-fits : Past c → Reachable c → MassesFit c
   reachable-fits p t =
       let l = p .shape .lengths in
       let m = meets-sum (F .n) (F .safeLow) (F .safeHigh) (next c) (t .0) (t .1) in
       let high = most-cells (c .lists) l (newTotal c) .1 (m .1 .1) in
       record {
         shape = p .shape;
+        room = p .room;
         scale-small = p .scale-small;
         same-scale = p .same-scale;
         values = p .values;
@@ -86,11 +88,11 @@ module _ (c : StepCall) where
   Decided a = Accepts a ⊎ ForTotal a → Accepts a ↔ Reachable c
 
   decided : (x : StepResult) (v : Checked) → stepVerdict c ≡ v → Decided (answered v x)
-  decided x Pass e o = (λ a. fits-reachable (step-accepts c .0 e), λ t. tt)
-  decided x (Fail number place) e o = (λ a. absurd a, λ t. no-pass (step-accepts c .1 (reachable-fits past t)) e)
+  decided x Pass e o = (λ a. fits-reachable (step-accepts c .0 e .masses), λ t. tt)
+  decided x (Fail number place) e o = (λ a. absurd a, λ t. refusal .1 (reachable-fits (refusal .0) t))
     where
-      past : Past c
-      past = refused-for-total c number place e (⊎-elim (λ a. absurd a) (λ n. n) o)
+      refusal : Past c × (MassesFit c → ⊥)
+      refusal = refused-for-total c number place e (⊎-elim (λ a. absurd a) (λ n. n) o)
 
 -- ---- one event
 
@@ -99,12 +101,12 @@ pub step-facts : (e : Event) → Promised e → StepFacts e
 step-facts e p =
     let x = stepResult (e .call) in
     record {
-      accepts = subst⁻¹ (λ a. Accepts a ↔ StepFits (e .call)) (p .answers) (accepts-means (e .call) x (stepVerdict (e .call)) refl);
+      accepts = subst⁻¹ (λ a. Accepts a ↔ StepFits (e .call)) (p .tells .answers) (accepts-means (e .call) x (stepVerdict (e .call)) refl);
       refuses =
-          subst⁻¹ (λ a. (number place : ℕ) → (a ≡ refused number place) ↔ Broken (stepRules (e .call)) number place) (p .answers)
+          subst⁻¹ (λ a. (number place : ℕ) → (a ≡ refused number place) ↔ Broken (stepRules (e .call)) number place) (p .tells .answers)
           (refuses-means (e .call) x (stepVerdict (e .call)) refl);
       gives = λ r t. accepted-facts e p r t;
-      decided = subst⁻¹ (Decided (e .call)) (p .answers) (decided (e .call) x (stepVerdict (e .call)) refl);
+      decided = subst⁻¹ (Decided (e .call)) (p .tells .answers) (decided (e .call) x (stepVerdict (e .call)) refl);
     }
 
 -- ---- an event that was lent a part of the kept masses
@@ -150,7 +152,7 @@ module _ (s : Standing) (e : Event) (before rest : List ℕ) (p : Promised e) (p
 
   -- accepted, it names the scale of the balance given, which is the one standing
   lent-scale : AtScale (s .balance .scale) e
-  lent-scale a = step-facts e p .accepts .0 a .same-scale ∙ ap (λ b. b .scale) (whole a .1)
+  lent-scale a = step-facts e p .accepts .0 a .masses .same-scale ∙ ap (λ b. b .scale) (whole a .1)
 
   lent-keeps-scale : balanceAfter (told e) (s .balance) .scale ≡ s .balance .scale
   lent-keeps-scale = by-told (told e) refl lent-scale
@@ -219,14 +221,22 @@ always-moves s e p k b =
     subst (λ l. Moves s e (record { kept = l; balance = balanceAfter (told e) (s .balance) })) (append-nil (e .kept))
     (Moves.lent [] [] p (sym k ∙ sym (append-nil (e .call .kept))) (λ a. (k, b)))
 
--- for every input there is an event that Step's contract promises
-pub promised : (c : StepCall) → (e : Event) × ((e .call ≡ c) × Promised e)
-promised c = (
+-- for every input of its types there is an event that Step's contract promises
+pub promised : (c : StepCall) → Typed c → (e : Event) × ((e .call ≡ c) × Promised e)
+promised c y = (
   record {
     call = c;
     answer = stepAnswer (answered (stepVerdict c) (stepResult c));
     kept = after (stepVerdict c) (treeMasses (field (c .lists)) (newTotal c)) (c .kept);
     scratch = after (stepVerdict c) (cleared (scratchPerNode * nodes (c .lists)) (c .scratch)) (c .scratch);
+    book = after (stepVerdict c) (grownBuffer (c .book) (c .length) (stepEntry c)) (c .book);
   },
-  (refl, record { answers = answer-tells (answered (stepVerdict c) (stepResult c)); leaves = record { writes = refl; clears = refl } }),
+  (
+    refl,
+    record {
+      typed = y;
+      tells = record { answers = answer-tells (answered (stepVerdict c) (stepResult c)); leaves = record { writes = refl; clears = refl } };
+      files = refl;
+    },
+  ),
 )

@@ -4,4 +4,5 @@ pub mod OpenLaws
 pub mod StepLaws
 pub mod FormerLaws
 pub mod Demand3
+pub mod BookLaws
 pub mod ExampleLaws

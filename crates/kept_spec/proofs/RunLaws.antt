@@ -48,3 +48,9 @@ run-collect f h s t es r = run-through f (λ x. x) (λ x. Unit) (λ x y e i m. (
 pub all-map : {E : Type 0} {P Q : E → Type 0} {es : List E} → ((e : E) → P e → Q e) → All P es → All Q es
 all-map f All.none = All.none
 all-map f (All.more {e = e} h hs) = All.more (f e h) (all-map f hs)
+
+-- a run of events after others in two
+pub run-split :
+    {E S : Type 0} {Move : S → E → S → Type 0} {s u : S} (xs : List E) {ys : List E} → Run Move s (xs ++ ys) u → (t : S) × (Run Move s xs t × Run Move t ys u)
+run-split {s = s} [] r = (s, (Run.done, r))
+run-split (x ∷ xs) (Run.step m r) = let z = run-split xs r in (z .0, (Run.step m (z .1 .0), z .1 .1))

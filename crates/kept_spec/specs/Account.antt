@@ -10,6 +10,9 @@ use Rattle.qlt_spec.specs.Masses.{treeMasses}
 use Rattle.qlt_spec.specs.Facts.{FieldFacts}
 use Rattle.numbers.specs.Lists.{sum, All}
 use Rattle.qlt_spec.specs.Operation.{repair}
+use lib.ListN.{drop}
+use Rattle.book_spec.specs.Book.{entry, Book, closing, recorded, add}
+use Rattle.book_spec.specs.LentBook.{heldIn, HasBook}
 use Rattle.kept_spec.specs.declared.Balance.{Balance}
 use Rattle.kept_spec.specs.declared.Stepped.{Stepped}
 use Rattle.kept_spec.specs.Step.{StepCall, next, stepRules, StepFits, StepResult, stepTells, StepContract}
@@ -21,6 +24,7 @@ pub record Event : Type 0 where
   pub answer : Stepped
   pub kept : List ℕ
   pub scratch : List ℤ
+  pub book : List ℕ
 
 -- what stands between calls: the kept masses, and the balance beside them
 pub record Standing : Type 0 where
@@ -55,7 +59,7 @@ gain e = gainBy (told e) (e .call .source)
 
 -- exactly what Step's contract promises of an event
 abbrev pub Promised : Event → Type 0
-Promised e = StepContract (e .call) (e .answer) (e .kept) (e .scratch)
+Promised e = StepContract (e .call) (e .answer) (e .kept) (e .scratch) (e .book)
 
 -- a call is lent a part of the kept masses, any part or the whole, and leaves in its place what it leaves; if it is accepted, it was lent the
 -- whole with the balance standing. Or it is lent other lists and is refused. Nobody else writes the kept masses.
@@ -71,8 +75,25 @@ pub data Moves : Standing → Event → Standing → Type 0 where
 abbrev pub Reachable : StepCall → Type 0
 Reachable c = (y : ℕ → ℤ) × Meets (field (c .lists) .n) (field (c .lists) .safeLow) (field (c .lists) .safeHigh) (next c) y
 
+-- the book that an accepted step was lent, and the one with a record more that it left (02)
+abbrev pub bookBefore : StepCall → Book
+bookBefore c = heldIn (c .book) (c .length)
+
+abbrev pub bookAfterStep : StepCall → StepResult → Book
+bookAfterStep c r = add (bookBefore c) (entry (c .source) (r .repair .outcome) (r .balance .total))
+
+pub record BookFacts (c : StepCall) (r : StepResult) (kept book : List ℕ) : Type 0 where
+  pub before : HasBook (c .book) (c .length) (bookBefore c)
+  pub left : HasBook book (r .length) (bookAfterStep c r)
+  -- bytes past it are as they were
+  pub rest : drop (r .length) book ≡ drop (r .length) (c .book)
+  -- 'After an accepted step the closing total equals opening plus the recorded sources, and the sum of the kept masses'; it is the new total
+  pub adds-up : pos (closing (bookAfterStep c r)) ≡ pos (bookAfterStep c r .opening) +ℤ recorded (bookAfterStep c r)
+  pub sums : closing (bookAfterStep c r) ≡ sum kept
+  pub closes : closing (bookAfterStep c r) ≡ r .balance .total
+
 -- what an accepted step gave and left
-pub record AcceptedFacts (c : StepCall) (r : StepResult) (kept : List ℕ) : Type 0 where
+pub record AcceptedFacts (c : StepCall) (r : StepResult) (kept book : List ℕ) : Type 0 where
   -- 'its new total': M is the total given plus the source, and the new balance's total is that M
   pub moves : pos (r .balance .total) ≡ next c
   -- and its scale is the one that the step names
@@ -84,6 +105,7 @@ pub record AcceptedFacts (c : StepCall) (r : StepResult) (kept : List ℕ) : Typ
   -- 'all lie within their bounds exactly when some masses within them have that total; else they lie within their safety bounds, and no
   -- masses with that total miss the bounds by less in sum. At each inner node every other division of its mass lies at least as far'
   pub facts : FieldFacts (field (c .lists)) (r .balance .total) kept
+  pub filed : BookFacts c r kept book
 
 -- the facts of one call
 pub record StepFacts (e : Event) : Type 0 where
@@ -91,7 +113,7 @@ pub record StepFacts (e : Event) : Type 0 where
   -- the rule that is broken, those before it holding
   pub accepts : Accepts (told e) ↔ StepFits (e .call)
   pub refuses : (number place : ℕ) → (told e ≡ refused number place) ↔ Broken (stepRules (e .call)) number place
-  pub gives : (r : StepResult) → told e ≡ accepted r → AcceptedFacts (e .call) r (e .kept)
+  pub gives : (r : StepResult) → told e ≡ accepted r → AcceptedFacts (e .call) r (e .kept) (e .book)
   -- 'a step accepted or refused for its new total was accepted exactly when some masses within its safety bounds reach it'
   pub decided : Accepts (told e) ⊎ ForTotal (told e) → Accepts (told e) ↔ Reachable (e .call)
 

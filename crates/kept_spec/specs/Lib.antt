@@ -4,4 +4,5 @@ pub mod Step
 pub mod Former
 pub mod Run
 pub mod Account
+pub mod BookRun
 pub mod Example

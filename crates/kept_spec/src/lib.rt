@@ -1,5 +1,6 @@
-// The kept field: what Open and Step check, answer and write, runs of Step calls, and the one theorem about every run. Definitions (specs/)
-// and laws (proofs/) alone; the code is in the crate `kept`. Relies on `qlt_spec`, `caas_spec` and `numbers`.
+// The kept field: what Open and Step check, answer and write, runs of Step calls, and the theorems about every run, with the book that a step adds
+// its record to (02). Definitions (specs/) and laws (proofs/) alone; the code is in the crate `kept`. Relies on `book_spec`, `blocks`, `qlt_spec`, `caas_spec` and
+// `numbers`.
 
 // What stands beside the kept masses, 02's record: 01's total standing, and the scale that it was opened at.
 pub struct Balance {
@@ -13,11 +14,13 @@ pub enum Opened {
     Refused { number: u32, place: u32 },
 }
 
-// Step's answer: the masses have replaced the kept ones and have this balance, or the call is refused.
+// Step's answer: the masses have replaced the kept ones and have this balance, and the book, with a record more, has this length in bytes; or
+// the call is refused.
 pub enum Stepped {
     Accepted {
         repair: qlt_spec::Repair,
         balance: Balance,
+        length: usize,
     },
     Refused {
         number: u32,

@@ -2,10 +2,12 @@
 // Step calls with fields drawn by a generator, some with a fault, of the scale too, and prints a line every 500 calls: the calls accepted and
 // refused, those refused with 17 among them, the total and scale standing, the sum and a check number of the kept masses, and what the
 // accepted calls have shared out. The sum must be the total and the scale 20 in every line. `stdout` was written by an implementation of the
-// papers' own words in another language, and not by this program. Masses stay far below 1000000000, and what is shared out far below
+// papers' own words in another language, and not by this program. Each call is lent the field's book, started from the total at the opening and
+// again from the total standing when it has 64 blocks; nothing of it is printed. Masses stay far below 1000000000, and what is shared out far below
 // 1000000000000, so that the remainders by these, which rule out overflow, change none.
-// Relies on `kept`, which it tests, `kept_spec` and `qlt_spec` for the answers, `test_support`, and `numbers` in proofs.
+// Relies on `kept`, which it tests, `book`, `kept_spec`, `book_spec` and `qlt_spec` for the answers, `test_support`, and `numbers` in proofs.
 ghost use Prim.Native.Nat.{_<_, _≤_};
+use book_spec::BookStarted;
 use kept_spec::Balance;
 use kept_spec::Opened;
 use kept_spec::Stepped;
@@ -19,14 +21,15 @@ use test_support::fields::nodes;
 
 mod output;
 
-// The generator's state, the calls accepted and refused so far, those refused with 17 among them, the balance standing, and what the accepted
-// calls have shared out.
+// The generator's state, the calls accepted and refused so far, those refused with 17 among them, the balance standing, the length of the book,
+// and what the accepted calls have shared out.
 pub struct Run {
     pub state: u32,
     pub accepted: u32,
     pub refused: u32,
     pub refused_with_17: u32,
     pub balance: Balance,
+    pub length: usize,
     pub shared: u64,
 }
 
@@ -81,13 +84,14 @@ fn given_source(drawn: u32, fault: u32) -> i32
 }
 
 // The run after an accepted call.
-fn accepted(run: Run, state: u32, repair: Repair, balance: Balance) -> Run {
+fn accepted(run: Run, state: u32, repair: Repair, balance: Balance, length: usize) -> Run {
     Run {
         state,
         accepted: more(run.accepted),
         refused: run.refused,
         refused_with_17: run.refused_with_17,
         balance,
+        length,
         shared: run.shared % 1000000000000 + repair.shared % 1000000000000,
     }
 }
@@ -97,8 +101,8 @@ fn count_17(count: u32, number: u32) -> u32 {
     if number == 17 { more(count) } else { count }
 }
 
-// The run after a refused call.
-fn refused(run: Run, state: u32, number: u32) -> Run {
+// The run after a refused call, which leaves the book.
+fn refused(run: Run, state: u32, number: u32, told: usize) -> Run {
     let balance = run.balance;
     Run {
         state,
@@ -106,16 +110,40 @@ fn refused(run: Run, state: u32, number: u32) -> Run {
         refused: more(run.refused),
         refused_with_17: count_17(run.refused_with_17, number),
         balance,
+        length: told,
         shared: run.shared,
     }
 }
 
-// The run after a call.
-fn counted(run: Run, state: u32, answer: Stepped) -> Run {
+// The run after a call that was told the book's length.
+fn counted(run: Run, state: u32, told: usize, answer: Stepped) -> Run {
     match answer {
-        Stepped::Accepted { repair, balance } => accepted(run, state, repair, balance),
-        Stepped::Refused { number, place: _ } => refused(run, state, number),
+        Stepped::Accepted {
+            repair,
+            balance,
+            length,
+        } => accepted(run, state, repair, balance, length),
+        Stepped::Refused { number, place: _ } => refused(run, state, number, told),
     }
+}
+
+// Starts a book from a total, and gives its length.
+fn start(total: u32, book: &mut [u8; 32768]) -> usize {
+    match book::start_book(total, book) {
+        BookStarted::Length(length) => length,
+        BookStarted::Refused {
+            number: _,
+            place: _,
+        } => 0,
+    }
+}
+
+// The length of the book to lend: of the one standing, or of a new one if that has 64 blocks.
+fn lent(total: u32, length: usize, book: &mut [u8; 32768]) -> usize {
+    if length < 32768 {
+        return length;
+    }
+    start(total, book)
 }
 
 // Steps by the first m parents, and with a scratch of its own.
@@ -132,6 +160,8 @@ fn step_by(
     weights: &[u32; 8],
     parents: &[u32; 15],
     m: usize,
+    book: &mut [u8; 32768],
+    told: usize,
 ) -> Stepped
     requires { ⌜ m ≤ 15 ⌝ }
 {
@@ -150,11 +180,13 @@ fn step_by(
         weights,
         &all[0..m],
         &mut scratch,
+        book,
+        told,
     )
 }
 
 // Draws a field and steps by it.
-fn one_call(run: Run, kept: &mut [u32; 8]) -> Run {
+fn one_call(run: Run, kept: &mut [u32; 8], book: &mut [u8; 32768]) -> Run {
     let kind = draw(run.state, 3);
     let mut targets = [0i32; 8];
     let mut lows = [0u32; 8];
@@ -178,6 +210,7 @@ fn one_call(run: Run, kept: &mut [u32; 8]) -> Run {
     let mut parents = [0u32; 15];
     fill_parents(kind.value, fault.value == 3, &mut parents);
     let balance = run.balance;
+    let told = lent(balance.total, run.length, book);
     let answer = step_by(
         given_balance(balance, fault.value),
         kept,
@@ -191,16 +224,18 @@ fn one_call(run: Run, kept: &mut [u32; 8]) -> Run {
         &weights,
         &parents,
         nodes(kind.value),
+        book,
+        told,
     );
-    counted(run, fault.state, answer)
+    counted(run, fault.state, told, answer)
 }
 
 // Makes 500 calls.
-fn some_calls(run: Run, kept: &mut [u32; 8]) -> Run {
+fn some_calls(run: Run, kept: &mut [u32; 8], book: &mut [u8; 32768]) -> Run {
     let mut now = run;
     let mut i: usize = 0;
     while i < 500 {
-        now = one_call(now, kept);
+        now = one_call(now, kept, book);
         i += 1;
     }
     now
@@ -208,17 +243,20 @@ fn some_calls(run: Run, kept: &mut [u32; 8]) -> Run {
 
 // Makes 24 times 500 calls, and prints a line after each 500.
 fn all_calls(balance: Balance, kept: &mut [u32; 8]) {
+    let mut book = [0u8; 32768];
+    let length = start(balance.total, &mut book);
     let mut now = Run {
         state: 1,
         accepted: 0,
         refused: 0,
         refused_with_17: 0,
         balance,
+        length,
         shared: 0,
     };
     let mut i: u64 = 0;
     while i < 24 {
-        now = some_calls(now, kept);
+        now = some_calls(now, kept, &mut book);
         i += 1;
         output::show(i * 500, now, kept);
     }

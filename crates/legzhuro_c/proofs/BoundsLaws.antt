@@ -10,6 +10,7 @@ use lib.IntN.{ℤ}
 use lib.ListN.{length}
 use Rattle.numbers.specs.Checks.{Answered, accepted, refused}
 use Rattle.numbers.proofs.CheckLaws.{answered-accepted, answered-refused}
+use Rattle.book_spec.specs.Book.{book}
 use Rattle.kept_spec.specs.Step.{StepCall, stepAnswer}
 use Rattle.kept_spec.proofs.StepLaws.{answer-tells}
 use Rattle.bounds_spec.specs.declared.Ratio.{Ratio}
@@ -52,15 +53,15 @@ bounds-own c r left q =
 
 -- a step with the bounds that an accepted call left, both returning 0: every mass is air times ratio
 pub call-consistent :
-    {b : BoundsCall} {left : Bounds} {x : Ratio} {c : StepCall} {answer kept answer′ : List ℕ} {scratch : List ℤ}
-    → BoundsReturns b 0 left → Uniform (b .given) x → boundsOf (c .lists) ≡ left → StepReturns c answer 0 kept scratch answer′
+    {b : BoundsCall} {left : Bounds} {x : Ratio} {c : StepCall} {answer kept answer′ : List ℕ} {scratch : List ℤ} {book : List ℕ}
+    → BoundsReturns b 0 left → Uniform (b .given) x → boundsOf (c .lists) ≡ left → StepReturns c answer 0 kept scratch book answer′
     → Consistent (b .given) x kept
-call-consistent {b} {left} {x} {c} {answer} {kept} {answer′} {scratch} q u same s = go (decLt (length answer) stepValues)
+call-consistent {b} {left} {x} {c} {answer} {kept} {answer′} {scratch} {book} q u same s = go (decLt (length answer) stepValues)
   where
     -- without room for its values the step would not return 0
     go : Dec (length answer < stepValues) → Consistent (b .given) x kept
-    go (yes h) = absurd (⊎-elim (λ e. omega arith) (λ d. ⊎-elim (λ e. omega arith) (λ e. omega arith) d) (step-short-returns c answer 0 kept scratch answer′ h s))
+    go (yes h) = absurd (⊎-elim (λ e. omega arith) (λ d. ⊎-elim (λ e. omega arith) (λ e. omega arith) d) (step-short-returns c answer 0 kept scratch book answer′ h s))
     go (no h) =
         step-consistent (bounds-own b 0 left q) u
-        (record { call = c; answer = stepAnswer (toldBy 0 (resultIn c answer′)); kept = kept; scratch = scratch }) (resultIn c answer′) same
-        (step-own c answer 0 kept scratch answer′ (omega arith) s) (answer-tells (accepted (resultIn c answer′)))
+        (record { call = c; answer = stepAnswer (toldBy 0 (resultIn c answer′)); kept = kept; scratch = scratch; book = book }) (resultIn c answer′) same
+        (step-own c answer 0 kept scratch book answer′ (omega arith) s) (answer-tells (accepted (resultIn c answer′)))

@@ -21,20 +21,22 @@ use Rattle.qlt_spec.specs.Field.{cells, nodes}
 use Rattle.qlt_spec.specs.Checks.{checkNodes}
 use Rattle.qlt_spec.specs.Operation.{Leaves}
 use Rattle.qlt_spec.proofs.OperationLaws.{leaves-refused}
+use Rattle.book_spec.specs.LentBook.{grownBuffer}
+use Rattle.book_spec.specs.Book.{book}
 use Rattle.kept_spec.specs.declared.Balance.{Balance}
 use Rattle.kept_spec.specs.declared.Opened.{Opened}
 use Rattle.kept_spec.specs.declared.Opened.the-variants as opened
 use Rattle.kept_spec.specs.declared.Stepped.{Stepped}
 use Rattle.kept_spec.specs.declared.Stepped.the-variants as stepped
 use Rattle.kept_spec.specs.Open.{openVerdict, openBalance, openTells, OpenContract}
-use Rattle.kept_spec.specs.Step.{StepCall, repairCall, stepVerdict, stepResult, stepTells, StepContract}
+use Rattle.kept_spec.specs.Step.{StepCall, repairCall, stepVerdict, stepResult, stepTells, StepContract, Typed, stepEntry}
 use Rattle.doubles_spec.specs.declared.CellDoubles.{CellDoubles}
 use Rattle.doubles_spec.specs.declared.CellUnits.{CellUnits}
 use Rattle.doubles_spec.specs.declared.Imported.{Imported}
 use Rattle.doubles_spec.specs.declared.Imported.the-variants as imported
 use Rattle.doubles_spec.specs.Import.{importVerdict, importUnits, importTells, ImportContract}
 use Rattle.doubles_spec.specs.Export.{exportVerdict}
-use Rattle.call_values.specs.Values.{returned, openValues, balanceWords, stepValues, repairWords}
+use Rattle.call_values.specs.Values.{returned, openValues, balanceWords, stepValues, resultWords}
 use Rattle.call_values.proofs.ValueLaws.{returned-pass, returned-fail, after-by, room, no-room, first-last}
 use Rattle.legzhuro_c.specs.Calls.{splitCallVerdict, SplitReturns, openCallVerdict, OpenReturns, stepCallVerdict, StepReturns, importCallVerdict, unitsList, ImportReturns, exportCallVerdict, ValueReturns}
 
@@ -114,10 +116,12 @@ module _ (c : StepCall) (answer : List ℕ) where
   step-chain =
       first-last (checkCount (cells (c .lists)) ∷ checkNodes (cells (c .lists)) (nodes (c .lists)) ∷ checkLong (length answer) stepValues ∷ []) (stepVerdict c)
 
-  pub step-shape-refused : {r number place : ℕ} → stepShape c answer ≡ Fail number place → r ≡ number + place * 2 ^ 32 → StepReturns c answer r (c .kept) (c .scratch) answer
-  step-shape-refused e z =
+  pub step-shape-refused :
+      {r number place : ℕ} → Typed c → stepShape c answer ≡ Fail number place → r ≡ number + place * 2 ^ 32
+      → StepReturns c answer r (c .kept) (c .scratch) (c .book) answer
+  step-shape-refused y e z =
       let v = step-chain ∙ ap (λ w. both w (stepVerdict c)) e in
-      record { returns = returned-fail v z; leaves = leaves-refused (repairCall c) v; writes = after-fail _ answer v }
+      record { typed = y; returns = returned-fail v z; leaves = leaves-refused (repairCall c) v; files = after-fail _ (c .book) v; writes = after-fail _ answer v }
 
   module _ (e : stepShape c answer ≡ Pass) where
     -- a call that passes them has room for its values
@@ -129,28 +133,33 @@ module _ (c : StepCall) (answer : List ℕ) where
     past-shape : stepCallVerdict c answer ≡ stepVerdict c
     past-shape = step-chain ∙ ap (λ w. both w (stepVerdict c)) e
 
-    module _ (a : Stepped) {kept : List ℕ} {scratch : List ℤ} (p : StepContract c a kept scratch) where
+    module _ (a : Stepped) {kept : List ℕ} {scratch : List ℤ} {book : List ℕ} (p : StepContract c a kept scratch book) where
       leaves-on : Leaves (stepCallVerdict c answer) (repairCall c) kept scratch
-      leaves-on = subst (λ v. Leaves v (repairCall c) kept scratch) (sym past-shape) (p .leaves)
+      leaves-on = subst (λ v. Leaves v (repairCall c) kept scratch) (sym past-shape) (p .tells .leaves)
+
+      files-on : book ≡ after (stepCallVerdict c answer) (grownBuffer (c .book) (c .length) (stepEntry c)) (c .book)
+      files-on = p .files ∙ ap (λ v. after v (grownBuffer (c .book) (c .length) (stepEntry c)) (c .book)) (sym past-shape)
 
       pub step-done :
-          {x : Repair} {b : Balance} {r : ℕ} {answer′ : List ℕ} → a ≡ stepped.Accepted x b → r ≡ 0 → answer′ ≡ written answer 0 (repairWords x)
-          → StepReturns c answer r kept scratch answer′
+          {x : Repair} {b : Balance} {l r : ℕ} {answer′ : List ℕ} → a ≡ stepped.Accepted x b l → r ≡ 0 → answer′ ≡ written answer 0 (resultWords x l)
+          → StepReturns c answer r kept scratch book answer′
       unfolding stepTells
-      step-done {x} {b} s z w =
-          let t = answered-accepted (stepVerdict c) (record { repair = x; balance = b }) (stepResult c) (ap stepTells (sym s) ∙ p .answers) in
+      step-done {x} {b} {l} s z w =
+          let t = answered-accepted (stepVerdict c) (record { repair = x; balance = b; length = l }) (stepResult c) (ap stepTells (sym s) ∙ p .tells .answers) in
           let v = past-shape ∙ t .0 in
           record {
+            typed = p .typed;
             returns = returned-pass v z;
             leaves = leaves-on;
-            writes = after-pass answer v (w ∙ ap (λ y. written answer 0 (repairWords (y .repair))) (t .1));
+            files = files-on;
+            writes = after-pass answer v (w ∙ ap (λ y. written answer 0 (resultWords (y .repair) (y .length))) (t .1));
           }
 
-      pub step-refused : {r number place : ℕ} → a ≡ stepped.Refused number place → r ≡ number + place * 2 ^ 32 → StepReturns c answer r kept scratch answer
+      pub step-refused : {r number place : ℕ} → a ≡ stepped.Refused number place → r ≡ number + place * 2 ^ 32 → StepReturns c answer r kept scratch book answer
       unfolding stepTells
       step-refused {number = number} {place = place} s z =
-          let v = past-shape ∙ answered-refused (stepVerdict c) (stepResult c) number place (ap stepTells (sym s) ∙ p .answers) in
-          record { returns = returned-fail v z; leaves = leaves-on; writes = after-fail _ answer v }
+          let v = past-shape ∙ answered-refused (stepVerdict c) (stepResult c) number place (ap stepTells (sym s) ∙ p .tells .answers) in
+          record { typed = p .typed; returns = returned-fail v z; leaves = leaves-on; files = files-on; writes = after-fail _ answer v }
 
 -- ---- Import
 

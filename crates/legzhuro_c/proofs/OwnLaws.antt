@@ -22,6 +22,7 @@ use Rattle.caas_spec.proofs.OperationLaws.{split-decides, split-numbers}
 use Rattle.qlt_spec.specs.Field.{cells, nodes}
 use Rattle.qlt_spec.specs.Checks.{checkNodes, checkShape}
 use Rattle.qlt_spec.specs.Operation.{repair, Leaves}
+use Rattle.book_spec.specs.Book.{book}
 use Rattle.kept_spec.specs.Open.{openVerdict, openBalance, openAnswer, OpenContract}
 use Rattle.kept_spec.specs.Step.{StepCall, repairCall, stepVerdict, stepResult, stepAnswer, StepContract}
 use Rattle.kept_spec.proofs.OpenLaws.{open-decides, open-numbers, open-answer-tells}
@@ -35,8 +36,8 @@ use Rattle.doubles_spec.specs.ExportSingle.{singleTells, singleAnswer, SingleCo
 use Rattle.doubles_spec.proofs.ImportLaws.{import-decides, import-refuses, import-numbers}
 use Rattle.doubles_spec.proofs.ExportLaws.{export-decides, export-numbers, export-meets}
 use Rattle.doubles_spec.proofs.SingleLaws.{single-meets}
-use Rattle.call_values.specs.Values.{returned, toldBy, openValues, balanceWords, stepValues, repairWords, balanceIn, resultIn}
-use Rattle.call_values.proofs.ValueLaws.{after-by, long-passes, long-fails, room, no-room, Numbered, told-own, numbered, balance-read, result-read}
+use Rattle.call_values.specs.Values.{returned, toldBy, openValues, balanceWords, stepValues, resultWords, balanceIn, resultIn}
+use Rattle.call_values.proofs.ValueLaws.{after-by, long-passes, long-fails, room, no-room, Numbered, told-own, numbered, balance-read, result-read, within-numbers}
 use Rattle.legzhuro_c.specs.Calls.{splitCallVerdict, SplitReturns, openCallVerdict, OpenReturns, stepCallVerdict, StepReturns, importCallVerdict, unitsList, ImportReturns, exportCallVerdict, ValueReturns, ExportReturns, SingleReturns, unitsIn, valueIn}
 
 -- ---- Split
@@ -121,7 +122,7 @@ module _ (kept : List ℕ) (k : ℕ) (answer : List ℕ) (r : ℕ) (answer′ : 
 -- ---- Step
 
 pub step-numbered : (c : StepCall) → Numbered (stepVerdict c)
-step-numbered c = numbered _ (step-decides c) (step-numbers c) refl
+step-numbered c = within-numbers _ (step-decides c) (step-numbers c) refl
 
 module _ (c : StepCall) (answer : List ℕ) where
   -- with room for its values, the call's verdict is Step's: 1 and 2 stand in it once more
@@ -149,24 +150,29 @@ module _ (c : StepCall) (answer : List ℕ) where
       go true false v e w = (2, (refl, inr (inl refl)))
       go true true v e w = (3, (ap (λ x. both x w) e, inr (inr refl)))
 
-  module _ (r : ℕ) (kept : List ℕ) (scratch : List ℤ) (answer′ : List ℕ) where
-    pub step-own : stepValues ≤ length answer → StepReturns c answer r kept scratch answer′ → StepContract c (stepAnswer (toldBy r (resultIn c answer′))) kept scratch
+  module _ (r : ℕ) (kept : List ℕ) (scratch : List ℤ) (book answer′ : List ℕ) where
+    pub step-own : stepValues ≤ length answer → StepReturns c answer r kept scratch book answer′ → StepContract c (stepAnswer (toldBy r (resultIn c answer′))) kept scratch book
     step-own h q =
         let v = step-long h in
         record {
-          answers =
-              answer-tells (toldBy r (resultIn c answer′))
-              ∙ told-own (stepVerdict c) r (resultIn c answer′) (stepResult c) (step-numbered c) (q .returns ∙ ap returned v)
-              (λ e. ap (resultIn c) (q .writes ∙ after-by (written answer 0 (repairWords (stepResult c .repair))) answer (v ∙ e)) ∙ result-read c answer);
-          leaves = subst (λ w. Leaves w (repairCall c) kept scratch) v (q .leaves);
+          typed = q .typed;
+          tells =
+              record {
+                answers =
+                    answer-tells (toldBy r (resultIn c answer′))
+                    ∙ told-own (stepVerdict c) r (resultIn c answer′) (stepResult c) (step-numbered c) (q .returns ∙ ap returned v)
+                    (λ e. ap (resultIn c) (q .writes ∙ after-by (written answer 0 (resultWords (stepResult c .repair) (stepResult c .length))) answer (v ∙ e)) ∙ result-read c answer);
+                leaves = subst (λ w. Leaves w (repairCall c) kept scratch) v (q .leaves);
+              };
+          files = q .files ∙ after-by _ (c .book) v;
         }
 
-    pub step-short : length answer < stepValues → StepReturns c answer r kept scratch answer′ → (kept ≡ c .kept) × ((scratch ≡ c .scratch) × (answer′ ≡ answer))
+    pub step-short : length answer < stepValues → StepReturns c answer r kept scratch book answer′ → (kept ≡ c .kept) × ((scratch ≡ c .scratch) × ((book ≡ c .book) × (answer′ ≡ answer)))
     step-short h q =
         let v = step-no-room h .1 .0 in
-        (q .leaves .writes ∙ after-by _ (c .kept) v, (q .leaves .clears ∙ after-by _ (c .scratch) v, q .writes ∙ after-by _ answer v))
+        (q .leaves .writes ∙ after-by _ (c .kept) v, (q .leaves .clears ∙ after-by _ (c .scratch) v, (q .files ∙ after-by _ (c .book) v, q .writes ∙ after-by _ answer v)))
 
-    pub step-short-returns : length answer < stepValues → StepReturns c answer r kept scratch answer′ → (r ≡ 1) ⊎ ((r ≡ 2) ⊎ (r ≡ 3))
+    pub step-short-returns : length answer < stepValues → StepReturns c answer r kept scratch book answer′ → (r ≡ 1) ⊎ ((r ≡ 2) ⊎ (r ≡ 3))
     step-short-returns h q =
         let n = step-no-room h in
         let e : r ≡ n .0 = q .returns ∙ ap returned (n .1 .0) ∙ omega arith in

@@ -14,8 +14,10 @@ use Rattle.caas_spec.specs.Operation.{SplitCall, items, splitVerdict, splitMass
 use Rattle.qlt_spec.specs.Field.{cells, nodes}
 use Rattle.qlt_spec.specs.Checks.{checkNodes}
 use Rattle.qlt_spec.specs.Operation.{repair, Leaves}
+use Rattle.book_spec.specs.LentBook.{grownBuffer, grownLength}
+use Rattle.book_spec.specs.Book.{book}
 use Rattle.kept_spec.specs.Open.{openVerdict, openBalance}
-use Rattle.kept_spec.specs.Step.{StepCall, newTotal, repairCall, stepVerdict}
+use Rattle.kept_spec.specs.Step.{StepCall, newTotal, repairCall, stepVerdict, Typed, stepEntry}
 use Rattle.bounds_spec.specs.Bounds.{Bounds, BoundsCall, converted, boundsVerdict}
 use Rattle.doubles_spec.specs.declared.CellDoubles.{CellDoubles}
 use Rattle.doubles_spec.specs.declared.CellUnits.{CellUnits}
@@ -28,7 +30,7 @@ use Rattle.files_spec.specs.ReadField.{fileCells}
 use Rattle.files_spec.specs.AnswerFile.{answerBlocks, answerBytes}
 use Rattle.files_spec.specs.WriteAnswer.{writeCall, writeVerdict}
 use Rattle.repair_file.specs.RepairFile.{fileVerdict, fileRules, FileFits, fileRepair, fileMasses}
-use Rattle.call_values.specs.Values.{returned, openValues, balanceWords, stepValues, repairWords}
+use Rattle.call_values.specs.Values.{returned, openValues, balanceWords, stepValues, resultWords}
 
 -- ---- the call on files: reading, then Reconstruct, then writing, each in its order
 
@@ -83,10 +85,12 @@ unfoldable pub stepCallVerdict : StepCall → List ℕ → Checked
 stepCallVerdict c answer =
     first (checkCount (cells (c .lists)) ∷ checkNodes (cells (c .lists)) (nodes (c .lists)) ∷ checkLong (length answer) stepValues ∷ stepVerdict c ∷ [])
 
-pub record StepReturns (c : StepCall) (answer : List ℕ) (r : ℕ) (kept : List ℕ) (scratch : List ℤ) (answer′ : List ℕ) : Type 0 where
+pub record StepReturns (c : StepCall) (answer : List ℕ) (r : ℕ) (kept : List ℕ) (scratch : List ℤ) (book answer′ : List ℕ) : Type 0 where
+  pub typed : Typed c
   pub returns : r ≡ returned (stepCallVerdict c answer)
   pub leaves : Leaves (stepCallVerdict c answer) (repairCall c) kept scratch
-  pub writes : answer′ ≡ after (stepCallVerdict c answer) (written answer 0 (repairWords (repair (c .lists) (newTotal c)))) answer
+  pub files : book ≡ after (stepCallVerdict c answer) (grownBuffer (c .book) (c .length) (stepEntry c)) (c .book)
+  pub writes : answer′ ≡ after (stepCallVerdict c answer) (written answer 0 (resultWords (repair (c .lists) (newTotal c)) (grownLength (c .book) (c .length)))) answer
 
 -- Bounds: it tells nothing beside the four lists
 pub record BoundsReturns (c : BoundsCall) (r : ℕ) (left : Bounds) : Type 0 where

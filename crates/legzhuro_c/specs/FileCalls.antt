@@ -1,8 +1,8 @@
 -- The calls from C that write a field file and read an answer file: what each returns and leaves in the lists lent to it. Assumes nothing.
 use mathlib.Core.Path.{_≡_}
 use mathlib.Core.Bool.{cond}
-use mathlib.Core.List.{List, _∷_}
-use Prim.Native.Nat.{ℕ, suc, _≤_}
+use mathlib.Core.List.{List, [], _∷_}
+use Prim.Native.Nat.{ℕ, _≤_}
 use lib.Dec.{leb}
 use lib.ListN.{length}
 use Rattle.numbers.specs.declared.Checked.{Checked}
@@ -14,7 +14,7 @@ use Rattle.files_spec.specs.FieldFile.{fieldBytes, FieldTyped}
 use Rattle.files_spec.specs.WriteField.{FieldWriteCall, fieldWriteVerdict, fieldOf}
 use Rattle.files_spec.specs.AnswerFile.{Repaired}
 use Rattle.files_spec.specs.ReadAnswer.{answerMasses, answerReadVerdict, AnswerReadFits, answerOf}
-use Rattle.call_values.specs.Values.{returned, stepValues, repairWords}
+use Rattle.call_values.specs.Values.{returned}
 
 -- ---- Write a field file: the length is not told, it is that of the cells and nodes
 
@@ -23,9 +23,9 @@ pub record WriteFieldReturns (c : FieldWriteCall) (r : ℕ) (buffer : List ℕ) 
   pub returns : r ≡ returned (fieldWriteVerdict c)
   pub writes : buffer ≡ after (fieldWriteVerdict c) (written (c .buffer) 0 (fieldBytes (fieldOf c) (c .total))) (c .buffer)
 
--- ---- Read an answer: the number of cells and what Step tells go to the first entries of `answer`
+-- ---- Read an answer: the number of cells and what the file tells of the repair go to the first entries of `answer`
 abbrev pub readValues : ℕ
-readValues = suc stepValues
+readValues = 5
 
 -- the room for masses that the call finds: none if `answer` is too short. A file has a cell, so this is refused with 3 as masses that are
 -- too short are, and at the same place in the order
@@ -41,7 +41,7 @@ pub record ReadAnswerFits (file masses answer : List ℕ) : Type 0 where
   pub values : readValues ≤ length answer
 
 abbrev pub repairedWords : Repaired → List ℕ
-repairedWords a = a .cells ∷ repairWords (a .repair)
+repairedWords a = a .cells ∷ a .repair .outcome ∷ a .repair .total ∷ a .repair .change ∷ a .repair .shared ∷ []
 
 pub record ReadAnswerReturns (file masses answer : List ℕ) (r : ℕ) (masses′ answer′ : List ℕ) : Type 0 where
   pub bytes : Bytes file

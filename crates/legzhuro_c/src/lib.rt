@@ -1,6 +1,6 @@
-// The calls from C, a static library. `include/legzhuro.h` documents them. Public: the seventeen functions here; what they share is in `returns`
-// and in `call_values`, the work of the file call in `whole`, that of the calls on a family in `family_calls` and `turn_calls`. Relies on every operation and on
-// `repair_file` and `numbers`.
+// The calls from C, a static library. `include/legzhuro.h` documents them. Public: the nineteen functions here; what they share is in `returns`
+// and in `call_values`, the work of the file call in `whole`, that of the calls on a family in `family_calls` and `turn_calls`, that of the calls on
+// a book in `book_calls`. Relies on every operation and on `repair_file` and `numbers`.
 ghost use Rattle.caas_spec.specs.Operation.{splitCall};
 ghost use Rattle.qlt_spec.specs.Field.{lists};
 ghost use Rattle.kept_spec.specs.Step.{stepCall};
@@ -8,13 +8,14 @@ ghost use Rattle.bounds_spec.specs.Bounds.{mixing, bounds, boundsCall};
 ghost use Rattle.files_spec.specs.WriteField.{fieldWriteCall};
 ghost use Rattle.family_spec.specs.Member.{stepInputs};
 ghost use Rattle.family_calls.specs.Calls.{FamilyStartReturns, FamilyOpenReturns, FamilyStepReturns};
+ghost use Rattle.book_calls.specs.BookCalls.{BookStartReturns, BookReportReturns};
 ghost use Rattle.turn_calls.specs.TurnCalls.{FamilyRegisterReturns, FamilyNextReturns, FamilyWaitingReturns, FamilyTurnReturns};
 ghost use Rattle.legzhuro_c.specs.Calls.{ReconstructReturns, SplitReturns, OpenReturns, StepReturns, BoundsReturns, ImportReturns, ExportReturns, SingleReturns};
 ghost use Rattle.legzhuro_c.specs.FileCalls.{WriteFieldReturns, ReadAnswerReturns};
 use bounds_spec::Bounded;
 use caas_spec::SplitAnswer;
 use call_values::values::put_balance;
-use call_values::values::put_repair;
+use call_values::values::put_result;
 use call_values::values::refusal;
 use call_values::values::step_shape;
 use doubles_spec::CellDoubles;
@@ -102,7 +103,7 @@ pub extern "C" fn legzhuro_open(kept: &[u32], scale: u32, answer: &mut [u64]) ->
 }
 
 // Step, with the balance in two numbers: answer[0] is the outcome, answer[1] the new total, answer[2] the change, answer[3] what was shared
-// out. The new balance is answer[1] at the same scale.
+// out, answer[4] the book's new length. The new balance is answer[1] at the same scale.
 #[no_mangle]
 pub extern "C" fn legzhuro_step(
     total: u32,
@@ -118,6 +119,8 @@ pub extern "C" fn legzhuro_step(
     weights: &[u32],
     parents: &[u32],
     scratch: &mut [i64],
+    book: &mut [u8],
+    book_length: usize,
     answer: &mut [u64],
 ) -> u64
     ensures { λ r.
@@ -125,8 +128,8 @@ pub extern "C" fn legzhuro_step(
         (stepCall (record { total = total; scale = «total_scale» }) (now (kept .entry)) source scale
         (lists (now (targets .entry)) (now (lows .entry)) (now (highs .entry)) (now («safe_lows» .entry)) (now («safe_highs» .entry))
         (now (weights .entry)) (now (parents .entry)))
-        (now (scratch .entry)))
-        (now (answer .entry)) r (now (kept .exit)) (now (scratch .exit)) (now (answer .exit)) ⌝ }
+        (now (scratch .entry)) (now (book .entry)) «book_length»)
+        (now (answer .entry)) r (now (kept .exit)) (now (scratch .exit)) (now (book .exit)) (now (answer .exit)) ⌝ }
 {
     let shape = step_shape(targets.len(), parents.len(), answer.len());
     if let Checked::Fail { number, place } = shape {
@@ -148,9 +151,15 @@ pub extern "C" fn legzhuro_step(
         weights,
         parents,
         scratch,
+        book,
+        book_length,
     );
     match stepped {
-        Stepped::Accepted { repair, balance: _ } => put_repair(repair, answer),
+        Stepped::Accepted {
+            repair,
+            balance: _,
+            length,
+        } => put_result(repair, length, answer),
         Stepped::Refused { number, place } => refusal(number, place),
     }
 }
@@ -330,7 +339,8 @@ pub extern "C" fn legzhuro_family_open(
     family_calls::open(family, member, kept, scale, answer)
 }
 
-// Step a member of a family: answer[0] is the outcome, answer[1] the new total, answer[2] the change, answer[3] what was shared out.
+// Step a member of a family: answer[0] is the outcome, answer[1] the new total, answer[2] the change, answer[3] what was shared out,
+// answer[4] the book's new length.
 #[no_mangle]
 pub extern "C" fn legzhuro_family_step(
     family: &mut [u64],
@@ -346,6 +356,8 @@ pub extern "C" fn legzhuro_family_step(
     weights: &[u32],
     parents: &[u32],
     scratch: &mut [i64],
+    book: &mut [u8],
+    book_length: usize,
     answer: &mut [u64],
 ) -> u64
     ensures { λ r.
@@ -353,8 +365,8 @@ pub extern "C" fn legzhuro_family_step(
         (stepInputs (now (kept .entry)) source scale
         (lists (now (targets .entry)) (now (lows .entry)) (now (highs .entry)) (now («safe_lows» .entry)) (now («safe_highs» .entry))
         (now (weights .entry)) (now (parents .entry)))
-        (now (scratch .entry)))
-        (now (answer .entry)) r (now (family .exit)) (now (kept .exit)) (now (scratch .exit)) (now (answer .exit)) ⌝ }
+        (now (scratch .entry)) (now (book .entry)) «book_length»)
+        (now (answer .entry)) r (now (family .exit)) (now (kept .exit)) (now (scratch .exit)) (now (book .exit)) (now (answer .exit)) ⌝ }
 {
     family_calls::step(
         family,
@@ -370,6 +382,8 @@ pub extern "C" fn legzhuro_family_step(
         weights,
         parents,
         scratch,
+        book,
+        book_length,
         answer,
     )
 }
@@ -399,7 +413,7 @@ pub extern "C" fn legzhuro_family_waiting(family: &[u64], answer: &mut [u64]) ->
 }
 
 // Serve the next in turn: answer[0] is the member, or 8 for idle, answer[1] what its step returned, answer[2] the outcome, answer[3] the new
-// total, answer[4] the change, answer[5] what was shared out.
+// total, answer[4] the change, answer[5] what was shared out, answer[6] the book's new length.
 #[no_mangle]
 pub extern "C" fn legzhuro_family_turn(
     family: &mut [u64],
@@ -414,6 +428,8 @@ pub extern "C" fn legzhuro_family_turn(
     weights: &[u32],
     parents: &[u32],
     scratch: &mut [i64],
+    book: &mut [u8],
+    book_length: usize,
     answer: &mut [u64],
 ) -> u64
     ensures { λ r.
@@ -421,8 +437,8 @@ pub extern "C" fn legzhuro_family_turn(
         (stepInputs (now (kept .entry)) source scale
         (lists (now (targets .entry)) (now (lows .entry)) (now (highs .entry)) (now («safe_lows» .entry)) (now («safe_highs» .entry))
         (now (weights .entry)) (now (parents .entry)))
-        (now (scratch .entry)))
-        (now (answer .entry)) r (now (family .exit)) (now (kept .exit)) (now (scratch .exit)) (now (answer .exit)) ⌝ }
+        (now (scratch .entry)) (now (book .entry)) «book_length»)
+        (now (answer .entry)) r (now (family .exit)) (now (kept .exit)) (now (scratch .exit)) (now (book .exit)) (now (answer .exit)) ⌝ }
 {
     turn_calls::turn(
         family,
@@ -437,6 +453,24 @@ pub extern "C" fn legzhuro_family_turn(
         weights,
         parents,
         scratch,
+        book,
+        book_length,
         answer,
     )
+}
+
+// Start a book at the front of a buffer: answer[0] is its length in bytes.
+#[no_mangle]
+pub extern "C" fn legzhuro_book_start(total: u32, buffer: &mut [u8], answer: &mut [u64]) -> u64
+    ensures { λ r. ⌜ BookStartReturns total (now (buffer .entry)) (now (answer .entry)) r (now (buffer .exit)) (now (answer .exit)) ⌝ }
+{
+    book_calls::start(total, buffer, answer)
+}
+
+// Read a book: answer[0] is the opening total, answer[1] what came in, answer[2] what went out, answer[3] the closing total.
+#[no_mangle]
+pub extern "C" fn legzhuro_book_report(file: &[u8], answer: &mut [u64]) -> u64
+    ensures { λ r. ⌜ BookReportReturns (now (file .entry)) (now (answer .entry)) r (now (answer .exit)) ⌝ }
+{
+    book_calls::report(file, answer)
 }

@@ -9,8 +9,6 @@ use Rattle.numbers.specs.Lists.{written}
 use Rattle.numbers.specs.Checks.{after}
 use Rattle.numbers.proofs.CheckLaws.{answered-accepted, answered-refused, after-pass, after-fail}
 use Rattle.kept_spec.specs.declared.Stepped.{Stepped}
-use Rattle.call_values.specs.Values.{returned}
-use Rattle.call_values.proofs.ValueLaws.{returned-pass, returned-fail, room, no-room}
 use Rattle.family_spec.specs.declared.Family.{Family}
 use Rattle.family_spec.specs.declared.Registered.the-variants.{Done, Refused}
 use Rattle.family_spec.specs.declared.Turned.the-variants.{Idle, Served}
@@ -18,6 +16,9 @@ use Rattle.family_spec.specs.declared.FamilyRegistered.{FamilyRegistered}
 use Rattle.family_spec.specs.declared.FamilyTurned.{FamilyTurned}
 use Rattle.family_spec.specs.Member.{StepInputs}
 use Rattle.family_spec.specs.Operations.{registerVerdict, registerTells, RegisterContract, TurnContract}
+use Rattle.family_spec.specs.History.{place}
+use Rattle.call_values.specs.Values.{returned}
+use Rattle.call_values.proofs.ValueLaws.{returned-pass, returned-fail, room, no-room}
 use Rattle.family_calls.specs.List.{familyEntries, familyWords, familyIn}
 use Rattle.family_calls.specs.Calls.{callRoom}
 use Rattle.turn_calls.specs.TurnCalls.{registerCallVerdict, registeredIn, FamilyRegisterReturns, FamilyReads, turnValues, turnWords, turnList, TurnCallBy, FamilyTurnReturns}
@@ -63,27 +64,27 @@ module _ (value : Family → ℕ) (family answer : List ℕ) where
 -- ---- turn
 
 module _ (family : List ℕ) (x : StepInputs) (answer : List ℕ) where
-  pub turn-refused : {r number place : ℕ} → callRoom family answer turnValues ≡ Fail number place → r ≡ number + place * 2 ^ 32 → FamilyTurnReturns family x answer r family (x .kept) (x .scratch) answer
+  pub turn-refused : {r number place : ℕ} → callRoom family answer turnValues ≡ Fail number place → r ≡ number + place * 2 ^ 32 → FamilyTurnReturns family x answer r family (x .kept) (x .scratch) (x .book) answer
   turn-refused v z =
       record {
         returns = returned-fail v z;
-        does = subst (λ w. TurnCallBy w family x answer family (x .kept) (x .scratch) answer) (sym v) (record { gives = refl; keeps = refl; clears = refl; writes = refl });
+        does = subst (λ w. TurnCallBy w family x answer family (x .kept) (x .scratch) (x .book) answer) (sym v) (record { gives = refl; keeps = refl; clears = refl; files = refl; writes = refl });
       }
 
-  module _ (v : callRoom family answer turnValues ≡ Pass) (a : FamilyTurned) {kept : List ℕ} {scratch : List ℤ} (p : TurnContract (familyIn family) x a kept scratch) where
+  module _ (v : callRoom family answer turnValues ≡ Pass) (a : FamilyTurned) {kept : List ℕ} {scratch : List ℤ} {book : List ℕ} (p : TurnContract (familyIn family) x a kept scratch book) where
     made :
         {r : ℕ} {family′ answer′ : List ℕ} → r ≡ 0 → family′ ≡ turnList (a .answer) family (a .family) → answer′ ≡ written answer 0 (turnWords (a .answer))
-        → FamilyTurnReturns family x answer r family′ kept scratch answer′
+        → FamilyTurnReturns family x answer r family′ kept scratch book answer′
     made {family′ = family′} {answer′ = answer′} z u w =
         record {
           returns = returned-pass v z;
-          does = subst (λ y. TurnCallBy y family x answer family′ kept scratch answer′) (sym v) (record { turned = a; contract = p; gives = u; writes = w });
+          does = subst (λ y. TurnCallBy y family x answer family′ kept scratch book answer′) (sym v) (record { turned = a; contract = p; gives = u; writes = w });
         }
 
-    pub turn-idled : {r : ℕ} {answer′ : List ℕ} → a .answer ≡ Idle → r ≡ 0 → answer′ ≡ written answer 0 (turnWords Idle) → FamilyTurnReturns family x answer r family kept scratch answer′
+    pub turn-idled : {r : ℕ} {answer′ : List ℕ} → a .answer ≡ Idle → r ≡ 0 → answer′ ≡ written answer 0 (turnWords Idle) → FamilyTurnReturns family x answer r family kept scratch book answer′
     turn-idled e z w = made z (ap (λ t. turnList t family (a .family)) (sym e)) (w ∙ ap (λ t. written answer 0 (turnWords t)) (sym e))
 
     pub turn-served :
         {i r : ℕ} {s : Stepped} {family′ answer′ : List ℕ} → a .answer ≡ Served i s → family′ ≡ written family 0 (familyWords (a .family)) → r ≡ 0
-        → answer′ ≡ written answer 0 (turnWords (Served i s)) → FamilyTurnReturns family x answer r family′ kept scratch answer′
+        → answer′ ≡ written answer 0 (turnWords (Served i s)) → FamilyTurnReturns family x answer r family′ kept scratch book answer′
     turn-served e u z w = made z (u ∙ ap (λ t. turnList t family (a .family)) (sym e)) (w ∙ ap (λ t. written answer 0 (turnWords t)) (sym e))

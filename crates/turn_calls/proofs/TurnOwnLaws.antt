@@ -18,9 +18,6 @@ use Rattle.qlt_spec.specs.Operation.{repair}
 use Rattle.kept_spec.specs.declared.Stepped.{Stepped}
 use Rattle.kept_spec.specs.Step.{StepCall, newTotal, StepResult, stepResult, stepTells, stepAnswer}
 use Rattle.kept_spec.proofs.StepLaws.{answer-tells, step-tells-injective}
-use Rattle.call_values.specs.Values.{returned, toldBy, stepValues}
-use Rattle.call_values.proofs.ValueLaws as values
-use Rattle.call_values.proofs.ValueLaws.{after-by, long-passes, long-fails, no-room, Numbered, told-returned, told-own, numbered}
 use Rattle.family_spec.specs.declared.Family.{Family}
 use Rattle.family_spec.specs.declared.NextMember.the-variants as next
 use Rattle.family_spec.specs.declared.Turned.{Turned}
@@ -30,17 +27,21 @@ use Rattle.family_spec.specs.Family.{openWith, memberAt, put, room, terms}
 use Rattle.family_spec.specs.Waiting.{withBit, withoutBit}
 use Rattle.family_spec.specs.Member.{StepInputs, callOf}
 use Rattle.family_spec.specs.Operations.{stepMemberVerdict, StepMemberContract, registerVerdict, registerAnswer, RegisterContract, nextMember, serve, ServingTurn, TurnBy, TurnContract}
+use Rattle.family_spec.specs.History.{place}
 use Rattle.family_spec.proofs.RuleLaws.{stepping-accepts, registering-decides, registering-accepts, registering-numbers}
 use Rattle.family_spec.proofs.AnswerLaws.{register-answer-tells}
 use Rattle.family_spec.proofs.TurnLaws.{turn-serves, turn-idles, turn-decided}
 use Rattle.family_spec.proofs.ByteLaws.{set-byte, clear-byte}
 use Rattle.family_spec.proofs.WaitingLaws.{next-number}
+use Rattle.call_values.specs.Values.{returned, toldBy, stepValues}
+use Rattle.call_values.proofs.ValueLaws.{after-by, long-passes, long-fails, no-room, Numbered, told-returned, told-own, numbered}
 use Rattle.family_calls.specs.List.{familyEntries, familyWords, familyIn}
 use Rattle.family_calls.specs.Calls.{callRoom, FamilyStepReturns, stepTold}
 use Rattle.family_calls.proofs.ListLaws.{Typed, in-typed, put-typed, schedule-typed, family-read}
 use Rattle.family_calls.proofs.OwnLaws.{read-after, length-after, step-numbered, step-long, step-own}
 use Rattle.turn_calls.specs.TurnCalls.{registerCallVerdict, registeredIn, FamilyRegisterReturns, FamilyReads, turnValues, stepWords, turnWords, turnList, TurnLeaves, TurnMade, TurnCallBy, FamilyTurnReturns}
 use Rattle.turn_calls.specs.CallRuns.{turnTold}
+use Rattle.call_values.proofs.ValueLaws as values
 
 -- ---- register
 
@@ -126,12 +127,12 @@ module _ (family : List ℕ) (i : ℕ) (x : StepInputs) (answer : List ℕ) wher
       ∙ ap (λ l. stepTold family i x (at l 1) (drop 2 l)) u ∙ told-by (stepMemberVerdict g i x) (step-numbered g i x) ∙ sym t)
 
   -- the family that such a turn gives is as wide as the machine's numbers
-  stepped-typed : {s : FamilyStepped} {kept : List ℕ} {scratch : List ℤ} → StepMemberContract g i x s kept scratch → Typed (s .family)
+  stepped-typed : {s : FamilyStepped} {kept : List ℕ} {scratch : List ℤ} {book : List ℕ} → StepMemberContract g i x s kept scratch book → Typed (s .family)
   stepped-typed p = subst Typed (sym (p .gives)) (by-verdict (stepMemberVerdict g i x) refl)
     where
       by-verdict : (v : Checked) → stepMemberVerdict g i x ≡ v → Typed (after v (put g i (openWith (newTotal c))) g)
       by-verdict Pass e =
-          let z = stepping-accepts (terms g) i (memberAt g i) (room g i) x .0 e .stepping .small in
+          let z = stepping-accepts (terms g) i (memberAt g i) (room g i) x .0 e .stepping .masses .small in
           put-typed g i (newTotal c) (omega (arith, z)) (in-typed family)
       by-verdict (Fail number place) e = in-typed family
 
@@ -140,23 +141,23 @@ module _ (family : List ℕ) (i : ℕ) (x : StepInputs) (answer : List ℕ) wher
 
 -- ---- turn
 
-module _ (family : List ℕ) (x : StepInputs) (answer : List ℕ) (family′ kept : List ℕ) (scratch : List ℤ) (answer′ : List ℕ) where
+module _ (family : List ℕ) (x : StepInputs) (answer : List ℕ) (family′ kept : List ℕ) (scratch : List ℤ) (book answer′ : List ℕ) where
   abbrev h : Family
   h = familyIn family
 
   abbrev Own : Type 0
-  Own = TurnContract h x (record { family = familyIn family′; answer = turnTold family x answer′ }) kept scratch
+  Own = TurnContract h x (record { family = familyIn family′; answer = turnTold family x answer′ }) kept scratch book
 
   -- by what the turn told
-  own-by : (u : Family) (a : Turned) → TurnContract h x (record { family = u; answer = a }) kept scratch → family′ ≡ turnList a family u → answer′ ≡ written answer 0 (turnWords a) → Own
-  own-by u Idle p e w = subst (λ X. X) (λ z. TurnContract h x (record { family = same z; answer = told z }) kept scratch) p
+  own-by : (u : Family) (a : Turned) → TurnContract h x (record { family = u; answer = a }) kept scratch book → family′ ≡ turnList a family u → answer′ ≡ written answer 0 (turnWords a) → Own
+  own-by u Idle p e w = subst (λ X. X) (λ z. TurnContract h x (record { family = same z; answer = told z }) kept scratch book) p
     where
       same : u ≡ familyIn family′
       same = turn-idles p .gives ∙ ap familyIn (sym e)
 
       told : Idle ≡ turnTold family x answer′
       told = unfold written in (ap (turnTold family x) (sym w))
-  own-by u (Served i s) p e w = subst (λ X. X) (λ z. TurnContract h x (record { family = same z; answer = told z }) kept scratch) p
+  own-by u (Served i s) p e w = subst (λ X. X) (λ z. TurnContract h x (record { family = same z; answer = told z }) kept scratch book) p
     where
       l : i < 8
       l = next-number h (turn-serves p .due)
@@ -177,19 +178,19 @@ module _ (family : List ℕ) (x : StepInputs) (answer : List ℕ) (family′ kep
           sym
           (ap (λ n. cond (eqb n 8) Idle (Served n (stepAnswer (stepTold family n x (at answer′ 1) (drop 2 answer′))))) head
           ∙ ap (λ b. cond b Idle (Served i (stepAnswer (stepTold family i x (at answer′ 1) (drop 2 answer′))))) apart
-          ∙ ap (λ y. Served i y) (told-step family i x answer (turn-serves p .contract .tells .answers) w))
+          ∙ ap (λ y. Served i y) (told-step family i x answer (turn-serves p .contract .tells .tells .answers) w))
 
-  own-made : TurnMade family x answer family′ kept scratch answer′ → Own
+  own-made : TurnMade family x answer family′ kept scratch book answer′ → Own
   own-made m = own-by (m .turned .family) (m .turned .answer) (m .contract) (m .gives) (m .writes)
 
-  module _ (r : ℕ) (q : FamilyTurnReturns family x answer r family′ kept scratch answer′) where
+  module _ (r : ℕ) (q : FamilyTurnReturns family x answer r family′ kept scratch book answer′) where
     pub turn-own : familyEntries ≤ length family → turnValues ≤ length answer → (r ≡ 0) × Own
     turn-own b a =
         let v = call-room family answer turnValues b a in
-        (q .returns ∙ ap returned v, own-made (subst (λ w. TurnCallBy w family x answer family′ kept scratch answer′) v (q .does)))
+        (q .returns ∙ ap returned v, own-made (subst (λ w. TurnCallBy w family x answer family′ kept scratch book answer′) v (q .does)))
 
-    pub turn-short : callRoom family answer turnValues ≡ Fail 3 0 → (r ≡ 3) × TurnLeaves family x answer family′ kept scratch answer′
-    turn-short v = (q .returns ∙ ap returned v, subst (λ w. TurnCallBy w family x answer family′ kept scratch answer′) v (q .does))
+    pub turn-short : callRoom family answer turnValues ≡ Fail 3 0 → (r ≡ 3) × TurnLeaves family x answer family′ kept scratch book answer′
+    turn-short v = (q .returns ∙ ap returned v, subst (λ w. TurnCallBy w family x answer family′ kept scratch book answer′) v (q .does))
 
     pub turn-length : familyEntries ≤ length family → familyEntries ≤ length family′
     turn-length b = by-verdict (callRoom family answer turnValues) (q .does)
@@ -198,28 +199,31 @@ module _ (family : List ℕ) (x : StepInputs) (answer : List ℕ) (family′ kep
         by-answer u Idle e = let k = ap length e in omega (arith, k, b)
         by-answer u (Served i s) e = let k = ap length e ∙ length-kept family 0 (familyWords u) b in omega (arith, k, b)
 
-        by-verdict : (v : Checked) → TurnCallBy v family x answer family′ kept scratch answer′ → familyEntries ≤ length family′
+        by-verdict : (v : Checked) → TurnCallBy v family x answer family′ kept scratch book answer′ → familyEntries ≤ length family′
         by-verdict Pass m = by-answer (m .turned .family) (m .turned .answer) (m .gives)
         by-verdict (Fail number place) m = let k = ap length (m .gives) in omega (arith, k, b)
 
 -- the contract leaves nothing open: a turn from C returns one value and leaves one set of lists
 pub turn-call-decided :
-    (family : List ℕ) (x : StepInputs) (answer : List ℕ) {r r′ : ℕ} {l l′ kept kept′ : List ℕ} {scratch scratch′ : List ℤ} {w w′ : List ℕ}
-    → FamilyTurnReturns family x answer r l kept scratch w → FamilyTurnReturns family x answer r′ l′ kept′ scratch′ w′
-    → (r ≡ r′) × ((l ≡ l′) × ((kept ≡ kept′) × ((scratch ≡ scratch′) × (w ≡ w′))))
-turn-call-decided family x answer {l = l} {l′} {kept} {kept′} {scratch} {scratch′} {w} {w′} p q =
+    (family : List ℕ) (x : StepInputs) (answer : List ℕ) {r r′ : ℕ} {l l′ kept kept′ : List ℕ} {scratch scratch′ : List ℤ} {book book′ w w′ : List ℕ}
+    → FamilyTurnReturns family x answer r l kept scratch book w → FamilyTurnReturns family x answer r′ l′ kept′ scratch′ book′ w′
+    → (r ≡ r′) × ((l ≡ l′) × ((kept ≡ kept′) × ((scratch ≡ scratch′) × ((book ≡ book′) × (w ≡ w′)))))
+turn-call-decided family x answer {l = l} {l′} {kept} {kept′} {scratch} {scratch′} {book} {book′} {w} {w′} p q =
     (p .returns ∙ sym (q .returns), by-verdict (callRoom family answer turnValues) (p .does) (q .does))
   where
-    by-verdict : (v : Checked) → TurnCallBy v family x answer l kept scratch w → TurnCallBy v family x answer l′ kept′ scratch′ w′ → (l ≡ l′) × ((kept ≡ kept′) × ((scratch ≡ scratch′) × (w ≡ w′)))
+    by-verdict :
+        (v : Checked) → TurnCallBy v family x answer l kept scratch book w → TurnCallBy v family x answer l′ kept′ scratch′ book′ w′
+        → (l ≡ l′) × ((kept ≡ kept′) × ((scratch ≡ scratch′) × ((book ≡ book′) × (w ≡ w′))))
     by-verdict Pass a b =
         let d = turn-decided (familyIn family) x (a .contract) (b .contract) in (
           a .gives ∙ ap (λ y. turnList (y .answer) family (y .family)) (d .0) ∙ sym (b .gives),
-          (d .1 .0, (d .1 .1, a .writes ∙ ap (λ y. written answer 0 (turnWords (y .answer))) (d .0) ∙ sym (b .writes))),
+          (d .1 .0, (d .1 .1 .0, (d .1 .1 .1, a .writes ∙ ap (λ y. written answer 0 (turnWords (y .answer))) (d .0) ∙ sym (b .writes)))),
         )
-    by-verdict (Fail number place) a b = (a .gives ∙ sym (b .gives), (a .keeps ∙ sym (b .keeps), (a .clears ∙ sym (b .clears), a .writes ∙ sym (b .writes))))
+    by-verdict (Fail number place) a b =
+        (a .gives ∙ sym (b .gives), (a .keeps ∙ sym (b .keeps), (a .clears ∙ sym (b .clears), (a .files ∙ sym (b .files), a .writes ∙ sym (b .writes)))))
 
--- where i is next: what the call for a step of i returns stands behind i, and the masses and the scratch are left as that call leaves them
-module _ (family : List ℕ) (i : ℕ) (x : StepInputs) (answer : List ℕ) {r : ℕ} {l kept : List ℕ} {scratch : List ℤ} {w : List ℕ} (p : FamilyTurnReturns family x answer r l kept scratch w) (b : familyEntries ≤ length family) (a : turnValues ≤ length answer) (due : nextMember (familyIn family) ≡ next.Member i) where
+-- where i is next: what the call for a step of i returns stands behind i, and masses, scratch and book are left as that call leaves them
+module _ (family : List ℕ) (i : ℕ) (x : StepInputs) (answer : List ℕ) {r : ℕ} {l kept : List ℕ} {scratch : List ℤ} {book w : List ℕ} (p : FamilyTurnReturns family x answer r l kept scratch book w) (b : familyEntries ≤ length family) (a : turnValues ≤ length answer) (due : nextMember (familyIn family) ≡ next.Member i) where
   abbrev m : Family
   m = familyIn family
 
@@ -229,18 +233,22 @@ module _ (family : List ℕ) (i : ℕ) (x : StepInputs) (answer : List ℕ) {r :
   word-by (Fail number place) y = refl
 
   pub turn-steps :
-      (four : List ℕ) {r′ : ℕ} {l′ kept′ : List ℕ} {scratch′ : List ℤ} {w′ : List ℕ} → stepValues ≤ length four → FamilyStepReturns family i x four r′ l′ kept′ scratch′ w′
-      → (at w 0 ≡ i) × ((at w 1 ≡ r′) × ((kept ≡ kept′) × (scratch ≡ scratch′)))
+      (five : List ℕ) {r′ : ℕ} {l′ kept′ : List ℕ} {scratch′ : List ℤ} {book′ w′ : List ℕ} → stepValues ≤ length five
+      → FamilyStepReturns family i x five r′ l′ kept′ scratch′ book′ w′
+      → (at w 0 ≡ i) × ((at w 1 ≡ r′) × ((kept ≡ kept′) × ((scratch ≡ scratch′) × (book ≡ book′))))
   unfolding written
-  turn-steps four h q =
-      let made : TurnMade family x answer l kept scratch w = subst (λ v. TurnCallBy v family x answer l kept scratch w) (call-room family answer turnValues b a) (p .does) in
-      let t : ServingTurn m i x (made .turned) kept scratch = subst (λ n. TurnBy n m x (made .turned) kept scratch) due (made .contract .serves-next) in
-      let v = step-long family i x four _ _ _ _ _ q b h in
+  turn-steps five h q =
+      let made : TurnMade family x answer l kept scratch book w = subst (λ v. TurnCallBy v family x answer l kept scratch book w) (call-room family answer turnValues b a) (p .does) in
+      let t : ServingTurn m i x (made .turned) kept scratch book = subst (λ n. TurnBy n m x (made .turned) kept scratch book) due (made .contract .serves-next) in
+      let v = step-long family i x five _ _ _ _ _ _ q b h in
       let words : w ≡ written answer 0 (i ∷ stepWords (stepTells (t .step .answer))) = made .writes ∙ ap (λ y. written answer 0 (turnWords y)) (t .answers) in
-      let own = step-own family i x four _ _ _ _ _ q b h in (
+      let own = step-own family i x five _ _ _ _ _ _ q b h in (
         ap (λ y. at y 0) words,
         (
-          ap (λ y. at y 1) (words ∙ ap (λ y. written answer 0 (i ∷ stepWords y)) (t .contract .tells .answers)) ∙ word-by (stepMemberVerdict m i x) _ ∙ sym (q .returns ∙ ap returned v),
-          (t .contract .tells .leaves .writes ∙ sym (own .tells .leaves .writes), t .contract .tells .leaves .clears ∙ sym (own .tells .leaves .clears)),
+          ap (λ y. at y 1) (words ∙ ap (λ y. written answer 0 (i ∷ stepWords y)) (t .contract .tells .tells .answers)) ∙ word-by (stepMemberVerdict m i x) _ ∙ sym (q .returns ∙ ap returned v),
+          (
+            t .contract .tells .tells .leaves .writes ∙ sym (own .tells .tells .leaves .writes),
+            (t .contract .tells .tells .leaves .clears ∙ sym (own .tells .tells .leaves .clears), t .contract .tells .files ∙ sym (own .tells .files)),
+          ),
         ),
       )

@@ -10,7 +10,6 @@ use Rattle.numbers.specs.declared.Checked.the-variants.{Pass, Fail}
 use Rattle.numbers.specs.Lists.{written}
 use Rattle.numbers.specs.Checks.{Answered, accepted, refused, after, first, checkLong}
 use Rattle.kept_spec.specs.Step.{StepResult, stepTells}
-use Rattle.call_values.specs.Values.{returned, repairWords}
 use Rattle.family_spec.specs.declared.Family.{Family}
 use Rattle.family_spec.specs.declared.NextMember.{NextMember}
 use Rattle.family_spec.specs.declared.NextMember.the-variants as next
@@ -21,6 +20,8 @@ use Rattle.family_spec.specs.Family.{schedule}
 use Rattle.family_spec.specs.Waiting.{withBit}
 use Rattle.family_spec.specs.Member.{StepInputs}
 use Rattle.family_spec.specs.Operations.{registerVerdict, nextMember, waitingCount, TurnContract}
+use Rattle.family_spec.specs.History.{place}
+use Rattle.call_values.specs.Values.{returned, resultWords}
 use Rattle.family_calls.specs.List.{familyEntries, familyWords, familyIn}
 use Rattle.family_calls.specs.Calls.{callRoom}
 
@@ -57,16 +58,16 @@ FamilyWaitingReturns = FamilyReads waitingCount
 -- ---- turn
 
 abbrev pub turnValues : ℕ
-turnValues = 6
+turnValues = 7
 
 -- what the call for a step returns and writes: 0 and the values of an accepted one, the refusal and no values
 abbrev pub stepWords : Answered StepResult → List ℕ
-stepWords (accepted r) = 0 ∷ repairWords (r .repair)
-stepWords (refused number place) = (number + place * 2 ^ 32) ∷ 0 ∷ 0 ∷ 0 ∷ 0 ∷ []
+stepWords (accepted r) = 0 ∷ resultWords (r .repair) (r .length)
+stepWords (refused number place) = (number + place * 2 ^ 32) ∷ 0 ∷ 0 ∷ 0 ∷ 0 ∷ 0 ∷ []
 
 -- the member served, or 8 for idle, and these
 abbrev pub turnWords : Turned → List ℕ
-turnWords Idle = 8 ∷ 0 ∷ 0 ∷ 0 ∷ 0 ∷ 0 ∷ []
+turnWords Idle = 8 ∷ 0 ∷ 0 ∷ 0 ∷ 0 ∷ 0 ∷ 0 ∷ []
 turnWords (Served i answer) = i ∷ stepWords (stepTells answer)
 
 -- the list of the family after a turn that gave f: an idle one leaves it
@@ -75,23 +76,24 @@ turnList Idle family f = family
 turnList (Served i answer) family f = written family 0 (familyWords f)
 
 -- too short a list: nothing is written
-pub record TurnLeaves (family : List ℕ) (x : StepInputs) (answer family′ kept : List ℕ) (scratch : List ℤ) (answer′ : List ℕ) : Type 0 where
+pub record TurnLeaves (family : List ℕ) (x : StepInputs) (answer family′ kept : List ℕ) (scratch : List ℤ) (book answer′ : List ℕ) : Type 0 where
   pub gives : family′ ≡ family
   pub keeps : kept ≡ x .kept
   pub clears : scratch ≡ x .scratch
+  pub files : book ≡ x .book
   pub writes : answer′ ≡ answer
 
 -- else the turn of the family in the list is made
-pub record TurnMade (family : List ℕ) (x : StepInputs) (answer family′ kept : List ℕ) (scratch : List ℤ) (answer′ : List ℕ) : Type 0 where
+pub record TurnMade (family : List ℕ) (x : StepInputs) (answer family′ kept : List ℕ) (scratch : List ℤ) (book answer′ : List ℕ) : Type 0 where
   pub turned : FamilyTurned
-  pub contract : TurnContract (familyIn family) x turned kept scratch
+  pub contract : TurnContract (familyIn family) x turned kept scratch book
   pub gives : family′ ≡ turnList (turned .answer) family (turned .family)
   pub writes : answer′ ≡ written answer 0 (turnWords (turned .answer))
 
-abbrev pub TurnCallBy : Checked → List ℕ → StepInputs → List ℕ → List ℕ → List ℕ → List ℤ → List ℕ → Type 0
+abbrev pub TurnCallBy : Checked → List ℕ → StepInputs → List ℕ → List ℕ → List ℕ → List ℤ → List ℕ → List ℕ → Type 0
 TurnCallBy Pass = TurnMade
 TurnCallBy (Fail number place) = TurnLeaves
 
-pub record FamilyTurnReturns (family : List ℕ) (x : StepInputs) (answer : List ℕ) (r : ℕ) (family′ kept : List ℕ) (scratch : List ℤ) (answer′ : List ℕ) : Type 0 where
+pub record FamilyTurnReturns (family : List ℕ) (x : StepInputs) (answer : List ℕ) (r : ℕ) (family′ kept : List ℕ) (scratch : List ℤ) (book answer′ : List ℕ) : Type 0 where
   pub returns : r ≡ returned (callRoom family answer turnValues)
-  pub does : TurnCallBy (callRoom family answer turnValues) family x answer family′ kept scratch answer′
+  pub does : TurnCallBy (callRoom family answer turnValues) family x answer family′ kept scratch book answer′

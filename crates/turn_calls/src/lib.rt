@@ -18,7 +18,7 @@ use turns::waiting_count;
 mod put;
 
 // The values that a turn gives; `turnValues` in specs/.
-const TURN_VALUES: usize = 6;
+const TURN_VALUES: usize = 7;
 
 // Registers a member as waiting.
 pub fn register(family: &mut [u64], member: u32) -> u64
@@ -60,7 +60,7 @@ pub fn waiting(family: &[u64], answer: &mut [u64]) -> u64
 }
 
 // Serves the next in turn: answer[0] is the member, or 8 for idle, answer[1] what its step returned, answer[2] the outcome, answer[3] the new
-// total, answer[4] the change, answer[5] what was shared out.
+// total, answer[4] the change, answer[5] what was shared out, answer[6] the book's new length.
 pub fn turn(
     family: &mut [u64],
     kept: &mut [u32],
@@ -74,6 +74,8 @@ pub fn turn(
     weights: &[u32],
     parents: &[u32],
     scratch: &mut [i64],
+    book: &mut [u8],
+    told: usize,
     answer: &mut [u64],
 ) -> u64
     ensures { λ r.
@@ -81,8 +83,8 @@ pub fn turn(
         (stepInputs (now (kept .entry)) source scale
         (lists (now (targets .entry)) (now (lows .entry)) (now (highs .entry)) (now («safe_lows» .entry)) (now («safe_highs» .entry))
         (now (weights .entry)) (now (parents .entry)))
-        (now (scratch .entry)))
-        (now (answer .entry)) r (now (family .exit)) (now (kept .exit)) (now (scratch .exit)) (now (answer .exit)) ⌝ }
+        (now (scratch .entry)) (now (book .entry)) told)
+        (now (answer .entry)) r (now (family .exit)) (now (kept .exit)) (now (scratch .exit)) (now (book .exit)) (now (answer .exit)) ⌝ }
 {
     let room = call_room(family.len(), answer.len(), TURN_VALUES);
     if let Checked::Fail { number, place } = room {
@@ -101,9 +103,11 @@ pub fn turn(
         weights,
         parents,
         scratch,
+        book,
+        told,
     );
-    let told = turned.answer;
-    match told {
+    let answered = turned.answer;
+    match answered {
         Turned::Idle => put::put_idle(answer),
         Turned::Served { member, stepped } => {
             put_family(turned.family, family);

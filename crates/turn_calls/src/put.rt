@@ -4,7 +4,7 @@ ghost use mathlib.Core.List.{[], _∷_};
 ghost use Prim.Native.Nat.{_≤_};
 ghost use lib.ListN.{length};
 ghost use Rattle.numbers.specs.Lists.{written};
-ghost use Rattle.call_values.specs.Values.{repairWords};
+ghost use Rattle.call_values.specs.Values.{resultWords};
 ghost use Rattle.kept_spec.specs.Step.{stepTells};
 ghost use Rattle.family_spec.specs.declared.Turned.the-variants.{Idle};
 ghost use Rattle.turn_calls.specs.TurnCalls.{nextWord, turnValues, stepWords, turnWords};
@@ -31,10 +31,10 @@ pub fn put_value(value: u64, answer: &mut [u64]) -> u64
     0
 }
 
-// A member, what its step returned, and the step's values.
-fn put_turn(member: u32, returned: u64, repair: Repair, answer: &mut [u64]) -> u64
+// A member, what its step returned, the step's values, and the book's new length.
+fn put_turn(member: u32, returned: u64, repair: Repair, book: usize, answer: &mut [u64]) -> u64
     requires { ⌜ turnValues ≤ length (now answer) ⌝ }
-    ensures { λ r. ⌜ (r ≡ 0) × (now (answer .exit) ≡ written (now (answer .entry)) 0 (member ∷ returned ∷ repairWords repair)) ⌝ }
+    ensures { λ r. ⌜ (r ≡ 0) × (now (answer .exit) ≡ written (now (answer .entry)) 0 (member ∷ returned ∷ resultWords repair book)) ⌝ }
 {
     answer[0] = member as u64;
     answer[1] = returned;
@@ -42,6 +42,7 @@ fn put_turn(member: u32, returned: u64, repair: Repair, answer: &mut [u64]) -> u
     answer[3] = repair.total as u64;
     answer[4] = repair.change;
     answer[5] = repair.shared;
+    answer[6] = book as u64;
     0
 }
 
@@ -61,7 +62,7 @@ pub fn put_idle(answer: &mut [u64]) -> u64
     requires { ⌜ turnValues ≤ length (now answer) ⌝ }
     ensures { λ r. ⌜ (r ≡ 0) × (now (answer .exit) ≡ written (now (answer .entry)) 0 (turnWords Idle)) ⌝ }
 {
-    put_turn(8, 0, nothing(), answer)
+    put_turn(8, 0, nothing(), 0, answer)
 }
 
 pub fn put_served(member: u32, stepped: Stepped, answer: &mut [u64]) -> u64
@@ -69,9 +70,13 @@ pub fn put_served(member: u32, stepped: Stepped, answer: &mut [u64]) -> u64
     ensures { λ r. ⌜ (r ≡ 0) × (now (answer .exit) ≡ written (now (answer .entry)) 0 (member ∷ stepWords (stepTells stepped))) ⌝ }
 {
     match stepped {
-        Stepped::Accepted { repair, balance: _ } => put_turn(member, 0, repair, answer),
+        Stepped::Accepted {
+            repair,
+            balance: _,
+            length,
+        } => put_turn(member, 0, repair, length, answer),
         Stepped::Refused { number, place } => {
-            put_turn(member, refusal(number, place), nothing(), answer)
+            put_turn(member, refusal(number, place), nothing(), 0, answer)
         }
     }
 }

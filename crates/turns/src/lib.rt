@@ -63,14 +63,16 @@ pub fn turn(
     weights: &[u32],
     parents: &[u32],
     scratch: &mut [i64],
+    book: &mut [u8],
+    told: usize,
 ) -> FamilyTurned
     ensures { λ r.
         ⌜ TurnContract family
         (stepInputs (now (kept .entry)) source scale
         (lists (now (targets .entry)) (now (lows .entry)) (now (highs .entry)) (now («safe_lows» .entry)) (now («safe_highs» .entry))
         (now (weights .entry)) (now (parents .entry)))
-        (now (scratch .entry)))
-        r (now (kept .exit)) (now (scratch .exit)) ⌝ }
+        (now (scratch .entry)) (now (book .entry)) told)
+        r (now (kept .exit)) (now (scratch .exit)) (now (book .exit)) ⌝ }
 {
     let next = next_member(family);
     match next {
@@ -89,6 +91,8 @@ pub fn turn(
                 weights,
                 parents,
                 scratch,
+                book,
+                told,
             );
             let stepped = step.answer;
             FamilyTurned {

@@ -5,6 +5,7 @@
 
 use crate::output;
 use crate::runs::{targets, words};
+use compare::book::{fresh_book, LentBook};
 use compare::numbers::{each_case, Numbers};
 use compare::operations::{step, Balance, SCRATCH_PER_NODE};
 use compare::program::Program;
@@ -18,8 +19,10 @@ const MOST: usize = 600;
 fn step_line(workspace: &mut Workspace, source: i32, field: &Field) -> String {
     let balance = Balance { total: 0, scale: 0 };
     let (mut kept, mut scratch) = (vec![0; field.targets.len()], vec![0; SCRATCH_PER_NODE * field.parents.len()]);
-    let result = step(workspace, balance, &mut kept, source, balance.scale, &field.lists(), &mut scratch);
-    format!("step {}{}\n", output::repaired(result.map(|(repair, _)| repair)), output::words(&kept))
+    let (mut buffer, length) = fresh_book(balance.total);
+    let book = LentBook { buffer: &mut buffer, length };
+    let result = step(workspace, balance, &mut kept, source, balance.scale, &field.lists(), &mut scratch, book);
+    format!("step {}{}\n", output::repaired(result.map(|stepped| stepped.repair)), output::words(&kept))
 }
 
 fn case(workspace: &mut Workspace, numbers: &mut Numbers) -> String {

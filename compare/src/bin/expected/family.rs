@@ -4,10 +4,11 @@
 
 use crate::draws::{draw_field, Draws, CELLS};
 use crate::output;
+use compare::book::{fresh_book, LentBook};
 use compare::families::{next_member, open_member, register, start_family, step_member, turn, waiting_count, Family, Turned, MEMBERS};
-use compare::operations::{Refusal, LIMIT, SCRATCH_PER_NODE};
+use compare::operations::{Refusal, Stepped, LIMIT, SCRATCH_PER_NODE};
 use compare::program::Program;
-use compare::tree::{sum, Field, Repair, Workspace};
+use compare::tree::{sum, Field, Workspace};
 
 const CAP: u64 = 66_000;
 const SCALE: u32 = 20;
@@ -138,6 +139,8 @@ struct Lent {
     scale: u32,
     field: Field,
     scratch: Vec<i64>,
+    /// A book in order, and its length.
+    book: (Vec<u8>, usize),
 }
 
 /// Draws a field and a source for the member's kept masses, and a fault or none.
@@ -166,33 +169,36 @@ fn draw_step(draws: &mut Draws, run: &Run, member: usize) -> Lent {
         17 => source = 4000,
         _ => {}
     }
-    Lent { number, kept, source, scale, field, scratch }
+    let book = fresh_book(run.family.members[member].total);
+    Lent { number, kept, source, scale, field, scratch, book }
 }
 
 /// Counts a step of the member by the number given, or served by a turn, which was lent the masses of `member` and has left `kept`. What is
 /// told are the number, and outcome, new total, change and the sum shared out.
-fn count_step(run: &mut Run, member: usize, number: usize, kept: [u32; CELLS], stepped: Result<Repair, Refusal>) {
-    if let Ok(repair) = stepped {
+fn count_step(run: &mut Run, member: usize, number: usize, kept: [u32; CELLS], stepped: Result<Stepped, Refusal>) {
+    let repaired = stepped.map(|stepped| stepped.repair);
+    if let Ok(repair) = repaired {
         run.kept[member] = kept;
         run.shared += repair.shared;
     }
     run.take_in(&[number as u64]);
-    run.count(stepped.map(|repair| vec![u64::from(repair.outcome), u64::from(repair.total), repair.change, repair.shared]));
+    run.count(repaired.map(|repair| vec![u64::from(repair.outcome), u64::from(repair.total), repair.change, repair.shared]));
 }
 
 /// Draws a step of the member and makes it.
 fn step(workspace: &mut Workspace, draws: &mut Draws, run: &mut Run, member: usize) {
-    let Lent { number, mut kept, source, scale, field, mut scratch } = draw_step(draws, run, member);
-    let stepped = step_member(workspace, &mut run.family, number as u32, &mut kept, source, scale, &field.lists(), &mut scratch);
+    let Lent { number, mut kept, source, scale, field, mut scratch, book: (mut buffer, length) } = draw_step(draws, run, member);
+    let book = LentBook { buffer: &mut buffer, length };
+    let stepped = step_member(workspace, &mut run.family, number as u32, &mut kept, source, scale, &field.lists(), &mut scratch, book);
     count_step(run, member, number, kept, stepped);
 }
 
 /// Draws a step of the next in turn, or of the member if nobody waits, and takes a turn.
 fn one_turn(workspace: &mut Workspace, draws: &mut Draws, run: &mut Run, member: usize) {
     let member = next_member(&run.family).unwrap_or(member);
-    let Lent { mut kept, source, scale, field, mut scratch, .. } = draw_step(draws, run, member);
-    let waiting = run.family.waiting;
-    match turn(workspace, &mut run.family, &mut kept, source, scale, &field.lists(), &mut scratch) {
+    let Lent { mut kept, source, scale, field, mut scratch, book: (mut buffer, length), .. } = draw_step(draws, run, member);
+    let (waiting, book) = (run.family.waiting, LentBook { buffer: &mut buffer, length });
+    match turn(workspace, &mut run.family, &mut kept, source, scale, &field.lists(), &mut scratch, book) {
         Turned::Idle => {
             run.waits.count(waiting, None);
             run.take_in(&[NOBODY]);

@@ -3,6 +3,7 @@
 
 use crate::draws::{draw_field, Draws, CELLS};
 use crate::output;
+use compare::book::{fresh_book, LentBook};
 use compare::operations::{open, step, Balance, Refusal, SCRATCH_PER_NODE};
 use compare::program::Program;
 use compare::tree::{sum, Workspace};
@@ -37,11 +38,13 @@ fn one_step(workspace: &mut Workspace, draws: &mut Draws, run: &mut Run) {
         _ => {}
     }
     let mut scratch = vec![0; SCRATCH_PER_NODE * field.parents.len()];
-    match step(workspace, balance, &mut run.kept, source, scale, &field.lists(), &mut scratch) {
-        Ok((repair, new)) => {
+    let (mut buffer, length) = fresh_book(run.balance.total);
+    let book = LentBook { buffer: &mut buffer, length };
+    match step(workspace, balance, &mut run.kept, source, scale, &field.lists(), &mut scratch, book) {
+        Ok(stepped) => {
             run.accepted += 1;
-            run.balance = new;
-            run.shared += repair.shared;
+            run.balance = stepped.balance;
+            run.shared += stepped.repair.shared;
         }
         Err(refusal) => {
             run.refused += 1;

@@ -2,6 +2,7 @@
 //! of the crate NAME must print; `expected CRATES` compares that of every program with the `stdout` that is stored beside it, and exits
 //! with status 0 only if all are the same. CRATES is the folder of the crates.
 
+mod book;
 mod bounds;
 mod doubles;
 mod draws;
@@ -22,7 +23,7 @@ use std::path::{Path, PathBuf};
 type Expected = fn(&Program) -> String;
 
 /// The test programs by their crates: the one place where these are named.
-const PROGRAMS: [(&str, Expected); 11] = [
+const PROGRAMS: [(&str, Expected); 13] = [
     ("split_test", split::expected),
     ("reconstruct_test", reconstruct::expected),
     ("kept_test", kept::expected),
@@ -34,6 +35,8 @@ const PROGRAMS: [(&str, Expected); 11] = [
     ("legzhuro_query", query::expected_line),
     ("bounds_test", bounds::expected),
     ("family_test", family::expected),
+    ("book_test", book::expected),
+    ("legzhuro_book", book::expected_line),
 ];
 
 /// Compares an output with the one stored: the number of lines, or the first line that differs.

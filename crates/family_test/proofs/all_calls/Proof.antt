@@ -6,10 +6,10 @@ use Rattle.family_test.proofs.all_calls.Statement.{statement}
 use Rattle.family_test.proofs.all_calls.Tie as tie
 
 abbrev Inv-loop : tie.InvT-loop
-Inv-loop family counts₀ now₀ turns₀ i₀ counts now turns i = Unit
+Inv-loop family counts₀ now₀ turns₀ books₀ lengths₀ i₀ counts now turns books lengths i = Unit
 
 abbrev μ-loop : tie.MeasureT-loop
-μ-loop family counts₀ now₀ turns₀ i₀ counts now turns i = 8 - i
+μ-loop family counts₀ now₀ turns₀ books₀ lengths₀ i₀ counts now turns books lengths i = 8 - i
 
 loop-holds : tie.Need-loop-holds Inv-loop μ-loop
 loop-holds c = tt

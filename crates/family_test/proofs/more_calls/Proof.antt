@@ -6,10 +6,10 @@ use Rattle.family_test.proofs.more_calls.Statement.{statement}
 use Rattle.family_test.proofs.more_calls.Tie as tie
 
 abbrev Inv-loop : tie.InvT-loop
-Inv-loop done kept₀ turns₀ counts₀ now₀ i₀ kept turns counts now i = Unit
+Inv-loop done kept₀ books₀ lengths₀ turns₀ counts₀ now₀ i₀ kept books lengths turns counts now i = Unit
 
 abbrev μ-loop : tie.MeasureT-loop
-μ-loop done kept₀ turns₀ counts₀ now₀ i₀ kept turns counts now i = 4 - i
+μ-loop done kept₀ books₀ lengths₀ turns₀ counts₀ now₀ i₀ kept books lengths turns counts now i = 4 - i
 
 loop-holds : tie.Need-loop-holds Inv-loop μ-loop
 loop-holds c = tt

@@ -10,7 +10,11 @@ use Rattle.kept.proofs.step.Statement.{statement}
 use Rattle.kept.proofs.step.Tie as tie
 
 abbrev givenAt : tie.Start → ℤ → StepCall
-givenAt c source = stepCall (c .args .balance) (c .args .kept .now) source (c .args .scale) (lists (c .args .targets .now) (c .args .lows .now) (c .args .highs .now) (c .args .safe-lows .now) (c .args .safe-highs .now) (c .args .weights .now) (c .args .parents .now)) (c .args .scratch .now)
+givenAt c source =
+    let a = c .args in
+    stepCall (a .balance) (a .kept .now) source (a .scale)
+    (lists (a .targets .now) (a .lows .now) (a .highs .now) (a .safe-lows .now) (a .safe-highs .now) (a .weights .now) (a .parents .now)) (a .scratch .now)
+    (a .book .now) (a .told)
 
 step-with-requires : tie.Need-step-with-requires
 step-with-requires c κs = search needs
@@ -21,12 +25,16 @@ same-length c = search needs
 same-length-2 : tie.Need-same-length-2
 same-length-2 c = search needs
 
+same-length-3 : tie.Need-same-length-3
+same-length-3 c = search needs
+
 returns : tie.Need-returns
 unfolding stepVerdict stepVerdictWith
 returns c =
-    let s = c .before .before .before .before .before .before .before .before .before .before .before .before .before in
-    let done = c .before .before .before .step-with in
-    subst (λ (z : ℤ). StepContract (givenAt s z) (done .result) (done .last .1 .1 .0) (done .last .1 .1 .1 .1 .1 .1 .1 .1 .1 .1 .1 .1 .0)) (toZ-ofZ w32 (s .args .source) (s .fits .source)) (done .ensures)
+    let s = c .before .before .before .before .before .before .before .before .before .before .before .before .before .before .before .before .before in
+    let done = c .before .before .before .before .before .step-with in
+    subst (λ (z : ℤ). StepContract (givenAt s z) (done .result) (done .last .1 .1 .0) (done .last .1 .1 .1 .1 .1 .1 .1 .1 .1 .1 .1 .1 .0) (done .last .1 .1 .1 .1 .1 .1 .1 .1 .1 .1 .1 .1 .1 .0))
+    (toZ-ofZ w32 (s .args .source) (s .fits .source)) (done .ensures)
 
 pub step-spec : {M : Type 1} → statement M
-step-spec = tie.close (tie.spec step-with-requires same-length same-length-2 returns)
+step-spec = tie.close (tie.spec step-with-requires same-length same-length-2 same-length-3 returns)

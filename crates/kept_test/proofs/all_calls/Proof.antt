@@ -6,10 +6,13 @@ use Rattle.kept_test.proofs.all_calls.Statement.{statement}
 use Rattle.kept_test.proofs.all_calls.Tie as tie
 
 abbrev Inv-loop : tie.InvT-loop
-Inv-loop kept₀ now₀ i₀ kept now i = Unit
+Inv-loop kept₀ book₀ length now₀ i₀ kept book now i = Unit
 
 abbrev μ-loop : tie.MeasureT-loop
-μ-loop kept₀ now₀ i₀ kept now i = 24 - i
+μ-loop kept₀ book₀ length now₀ i₀ kept book now i = 24 - i
+
+start-requires : tie.Need-start-requires Inv-loop μ-loop
+start-requires c κs = search needs
 
 loop-holds : tie.Need-loop-holds Inv-loop μ-loop
 loop-holds c = tt
@@ -41,6 +44,7 @@ all-calls-spec =
     (tie.spec
     Inv-loop
     μ-loop
+    start-requires
     loop-holds
     some-calls-requires
     add-i

@@ -6,10 +6,10 @@ use Rattle.kept_test.proofs.some_calls.Statement.{statement}
 use Rattle.kept_test.proofs.some_calls.Tie as tie
 
 abbrev Inv-loop : tie.InvT-loop
-Inv-loop kept₀ now₀ i₀ kept now i = Unit
+Inv-loop kept₀ book₀ now₀ i₀ kept book now i = Unit
 
 abbrev μ-loop : tie.MeasureT-loop
-μ-loop kept₀ now₀ i₀ kept now i = 500 - i
+μ-loop kept₀ book₀ now₀ i₀ kept book now i = 500 - i
 
 loop-holds : tie.Need-loop-holds Inv-loop μ-loop
 loop-holds c = tt

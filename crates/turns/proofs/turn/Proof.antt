@@ -13,16 +13,16 @@ use Rattle.turns.proofs.turn.Statement.{statement}
 use Rattle.turns.proofs.turn.Tie as tie
 
 abbrev givenAt : tie.Start → ℤ → StepInputs
-givenAt s z = stepInputs (s .args .kept .now) z (s .args .scale) (lists (s .args .targets .now) (s .args .lows .now) (s .args .highs .now) (s .args .safe-lows .now) (s .args .safe-highs .now) (s .args .weights .now) (s .args .parents .now)) (s .args .scratch .now)
+givenAt s z = stepInputs (s .args .kept .now) z (s .args .scale) (lists (s .args .targets .now) (s .args .lows .now) (s .args .highs .now) (s .args .safe-lows .now) (s .args .safe-highs .now) (s .args .weights .now) (s .args .parents .now)) (s .args .scratch .now) (s .args .book .now) (s .args .told)
 
 abbrev given : tie.Start → StepInputs
 given s = givenAt s (s .args .source)
 
 -- what the step promises, of the source as it was given
-promised : (c : tie.After-step-member) → let s = c .before .before .before .before .before .before .before .before .before .before .before .before .before .before in StepMemberContract (s .args .family) (c .before .before .before .before .next .given .0 .0) (given s) (c .step-member .result) (c .step-member .last .1 .1 .0) (c .step-member .last .1 .1 .1 .1 .1 .1 .1 .1 .1 .1 .1 .1 .0)
+promised : (c : tie.After-step-member) → let s = c .before .before .before .before .before .before .before .before .before .before .before .before .before .before .before .before in StepMemberContract (s .args .family) (c .before .before .before .before .before .next .given .0 .0) (given s) (c .step-member .result) (c .step-member .last .1 .1 .0) (c .step-member .last .1 .1 .1 .1 .1 .1 .1 .1 .1 .1 .1 .1 .0) (c .step-member .last .1 .1 .1 .1 .1 .1 .1 .1 .1 .1 .1 .1 .1 .0)
 promised c =
-    let s = c .before .before .before .before .before .before .before .before .before .before .before .before .before .before in
-    subst (λ (z : ℤ). StepMemberContract (s .args .family) (c .before .before .before .before .next .given .0 .0) (givenAt s z) (c .step-member .result) (c .step-member .last .1 .1 .0) (c .step-member .last .1 .1 .1 .1 .1 .1 .1 .1 .1 .1 .1 .1 .0)) (toZ-ofZ w32 (s .args .source) (s .fits .source))
+    let s = c .before .before .before .before .before .before .before .before .before .before .before .before .before .before .before .before in
+    subst (λ (z : ℤ). StepMemberContract (s .args .family) (c .before .before .before .before .before .next .given .0 .0) (givenAt s z) (c .step-member .result) (c .step-member .last .1 .1 .0) (c .step-member .last .1 .1 .1 .1 .1 .1 .1 .1 .1 .1 .1 .1 .0) (c .step-member .last .1 .1 .1 .1 .1 .1 .1 .1 .1 .1 .1 .1 .1 .0)) (toZ-ofZ w32 (s .args .source) (s .fits .source))
     (c .step-member .ensures)
 
 next-member-requires : tie.Need-next-member-requires
@@ -35,7 +35,7 @@ step-member-requires : tie.Need-step-member-requires
 step-member-requires c κs = search needs
 
 served-requires : tie.Need-served-requires
-served-requires c κs = next-number (c .before .before .before .before .before .before .before .before .before .before .before .before .before .before .before .before .before .args .family) (sym (c .before .before .before .before .before .before .before .before .before .next-member .ensures) ∙ c .before .before .before .before .before .before .before .next .given .1)
+served-requires c κs = next-number (c .before .before .before .before .before .before .before .before .before .before .before .before .before .before .before .before .before .before .before .before .before .args .family) (sym (c .before .before .before .before .before .before .before .before .before .before .before .before .next-member .ensures) ∙ c .before .before .before .before .before .before .before .before .before .before .next .given .1)
 
 enum-told : tie.Need-enum-told
 enum-told c = search needs
@@ -46,14 +46,17 @@ same-length c = search needs
 same-length-2 : tie.Need-same-length-2
 same-length-2 c = search needs
 
+same-length-3 : tie.Need-same-length-3
+same-length-3 c = search needs
+
 returns : tie.Need-returns
 returns c =
-    let s = c .before .before .before .before .before .before .before .before .before .before .before .before .before .before .before .before .before .before in
-    turn-done (s .args .family) (given s) (c .before .before .before .before .step-member .result) (sym (c .before .before .before .before .before .before .before .before .before .before .next-member .ensures) ∙ c .before .before .before .before .before .before .before .before .next .given .1) (promised (c .before .before .before .before)) (c .served .ensures)
+    let s = c .before .before .before .before .before .before .before .before .before .before .before .before .before .before .before .before .before .before .before .before .before .before in
+    turn-done (s .args .family) (given s) (c .before .before .before .before .before .before .step-member .result) (sym (c .before .before .before .before .before .before .before .before .before .before .before .before .before .next-member .ensures) ∙ c .before .before .before .before .before .before .before .before .before .before .before .next .given .1) (promised (c .before .before .before .before .before .before)) (c .served .ensures)
 
 returns-2 : tie.Need-returns-2
 returns-2 c =
-    let s = c .before .before .before .before .before .before .before .before .before .before in
+    let s = c .before .before .before .before .before .before .before .before .before .before .before in
     turn-nobody (s .args .family) (given s) (sym (c .before .before .next-member .ensures) ∙ c .enum-told .given .1)
 
 pub turn-spec : {M : Type 1} → statement M
@@ -67,5 +70,6 @@ turn-spec =
     enum-told
     same-length
     same-length-2
+    same-length-3
     returns
     returns-2)

@@ -12,7 +12,7 @@ use Rattle.numbers.proofs.SignedLaws.{signed, about, add-parts}
 use Rattle.family_spec.specs.Family.{totalOf, room}
 use Rattle.family_spec.specs.Member.{checkRoom}
 use Rattle.family_spec.proofs.FamilyLaws.{source-passes, source-counts}
-use Rattle.kept.proofs.TotalLaws.{next-read}
+use Rattle.kept_checks.proofs.TotalLaws.{next-read}
 use borrow.Author.Needs.{needs}
 use Rattle.family.proofs.verdict.check_source.Statement.{statement}
 use Rattle.family.proofs.verdict.check_source.Tie as tie

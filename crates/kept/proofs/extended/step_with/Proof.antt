@@ -13,7 +13,11 @@ use Rattle.kept.proofs.extended.step_with.Statement.{statement}
 use Rattle.kept.proofs.extended.step_with.Tie as tie
 
 abbrev givenAt : tie.Start → ℤ → StepCall
-givenAt c source = stepCall (c .args .balance) (c .args .kept .now) source (c .args .scale) (lists (c .args .targets .now) (c .args .lows .now) (c .args .highs .now) (c .args .safe-lows .now) (c .args .safe-highs .now) (c .args .weights .now) (c .args .parents .now)) (c .args .scratch .now)
+givenAt c source =
+    let a = c .args in
+    stepCall (a .balance) (a .kept .now) source (a .scale)
+    (lists (a .targets .now) (a .lows .now) (a .highs .now) (a .safe-lows .now) (a .safe-highs .now) (a .weights .now) (a .parents .now)) (a .scratch .now)
+    (a .book .now) (a .told)
 
 -- the source as it is handed on
 source-is : (c : tie.Start) → toZ w32 (ofZ w32 (c .args .source)) ≡ c .args .source
@@ -23,7 +27,7 @@ step-verdict-requires : tie.Need-step-verdict-requires
 step-verdict-requires c κs = search needs
 
 step-by-requires : tie.Need-step-by-requires
-step-by-requires c κs = λ e. with-fits _ _ (sym (c .before .before .step-verdict .ensures) ∙ e)
+step-by-requires c κs = λ e. with-fits _ _ (sym (c .before .before .before .step-verdict .ensures) ∙ e)
 
 same-length : tie.Need-same-length
 same-length c = search needs
@@ -31,15 +35,26 @@ same-length c = search needs
 same-length-2 : tie.Need-same-length-2
 same-length-2 c = search needs
 
+same-length-3 : tie.Need-same-length-3
+same-length-3 c = search needs
+
 returns : tie.Need-returns
 returns c =
-    let s = c .before .before .before .before .before .before .before .before .before .before .before .before .before .before .before .before in
-    let done = c .before .before .before .step-by in
+    let s = c .before .before .before .before .before .before .before .before .before .before .before .before .before .before .before .before .before .before .before .before .before in
+    let done = c .before .before .before .before .before .step-by in
     let kept = done .last .1 .1 .0 in
     let scratch = done .last .1 .1 .1 .1 .1 .1 .1 .1 .1 .1 .1 .1 .0 in
-    subst (λ (z : ℤ). StepBy (stepVerdictWith (s .args .own ∷ []) (givenAt s z)) (givenAt s z) (done .result) kept scratch) (source-is s)
-    (subst (λ v. StepBy v (givenAt s (toZ w32 (ofZ w32 (s .args .source)))) (done .result) kept scratch) (c .before .before .before .before .before .before .step-verdict .ensures) (done .ensures))
+    let book = done .last .1 .1 .1 .1 .1 .1 .1 .1 .1 .1 .1 .1 .1 .0 in
+    subst (λ (z : ℤ). StepBy (stepVerdictWith (s .args .own ∷ []) (givenAt s z)) (givenAt s z) (done .result) kept scratch book) (source-is s)
+    (subst (λ v. StepBy v (givenAt s (toZ w32 (ofZ w32 (s .args .source)))) (done .result) kept scratch book) (c .before .before .before .before .before .before .before .before .before .step-verdict .ensures) (done .ensures))
 
 pub step-with-spec : {M : Type 1} → statement M
 step-with-spec =
-    tie.close (tie.spec step-verdict-requires step-by-requires same-length same-length-2 returns)
+    tie.close
+    (tie.spec
+    step-verdict-requires
+    step-by-requires
+    same-length
+    same-length-2
+    same-length-3
+    returns)

@@ -2,7 +2,7 @@
 use mathlib.Core.Path.{_∙_, ap}
 use mathlib.Core.List.{_∷_}
 use Rattle.numbers.specs.Lists.{written}
-use Rattle.call_values.specs.Values.{repairWords}
+use Rattle.call_values.specs.Values.{resultWords}
 use borrow.Author.Needs.{needs}
 use Rattle.turn_calls.proofs.put.put_idle.Statement.{statement}
 use Rattle.turn_calls.proofs.put.put_idle.Tie as tie
@@ -17,7 +17,7 @@ same-length : tie.Need-same-length
 same-length c = search needs
 
 returns : tie.Need-returns
-returns c = let put = c .before .before .put-turn .ensures in (put .0, put .1 ∙ ap (λ y. written (c .before .before .before .before .before .before .args .answer .now) 0 (8 ∷ 0 ∷ repairWords y)) (c .before .before .before .before .nothing .ensures))
+returns c = let put = c .before .before .put-turn .ensures in (put .0, put .1 ∙ ap (λ y. written (c .before .before .before .before .before .before .args .answer .now) 0 (8 ∷ 0 ∷ resultWords y 0)) (c .before .before .before .before .nothing .ensures))
 
 pub put-idle-spec : {M : Type 1} → statement M
 put-idle-spec =

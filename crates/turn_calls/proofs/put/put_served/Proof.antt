@@ -3,7 +3,7 @@ use mathlib.Core.Path.{sym, _∙_, ap}
 use mathlib.Core.List.{_∷_}
 use Rattle.numbers.specs.Lists.{written}
 use Rattle.kept_spec.specs.Step.{stepTells}
-use Rattle.call_values.specs.Values.{repairWords}
+use Rattle.call_values.specs.Values.{resultWords}
 use Rattle.turn_calls.specs.TurnCalls.{stepWords}
 use borrow.Author.Needs.{needs}
 use Rattle.turn_calls.proofs.put.put_served.Statement.{statement}
@@ -46,7 +46,7 @@ returns-2 c =
     let a = c .before .before .before .before .before .before .before .before .before .before .args in
     let put = c .before .before .put-turn2 .ensures in (
       put .0,
-      put .1 ∙ (λ z. written (a .answer .now) 0 (a .member ∷ c .before .before .before .before .before .refusal .ensures z ∷ repairWords (c .before .before .before .before .nothing .ensures z)))
+      put .1 ∙ (λ z. written (a .answer .now) 0 (a .member ∷ c .before .before .before .before .before .refusal .ensures z ∷ resultWords (c .before .before .before .before .nothing .ensures z) 0))
           ∙ ap (λ y. written (a .answer .now) 0 (a .member ∷ stepWords (stepTells y))) (sym (c .before .before .before .before .before .before .before .stepped2 .given .1)),
     )
 

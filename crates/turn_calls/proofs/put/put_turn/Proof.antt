@@ -1,10 +1,10 @@
--- `turn_calls::put::put_turn` meets its contract: six stores in a row are one written part.
+-- `turn_calls::put::put_turn` meets its contract: seven stores in a row are one written part.
 use mathlib.Core.Path.{refl}
 use mathlib.Core.List.{_∷_}
 use native.Mathlib.Omega.{arith}
 use lib.ListN.{length-set}
 use Rattle.numbers.proofs.PartLaws.{sets-written}
-use Rattle.call_values.specs.Values.{repairWords}
+use Rattle.call_values.specs.Values.{resultWords}
 use borrow.Author.Needs.{needs}
 use Rattle.turn_calls.proofs.put.put_turn.Statement.{statement}
 use Rattle.turn_calls.proofs.put.put_turn.Tie as tie
@@ -33,11 +33,14 @@ slice-write-answer-5 c = simp length-set (let h = c .before .before .pre in omeg
 slice-write-answer-6 : tie.Need-slice-write-answer-6
 slice-write-answer-6 c = simp length-set (let h = c .before .before .pre in omega (arith, h))
 
+slice-write-answer-7 : tie.Need-slice-write-answer-7
+slice-write-answer-7 c = simp length-set (let h = c .before .before .pre in omega (arith, h))
+
 same-length : tie.Need-same-length
 same-length c = search needs
 
 returns : tie.Need-returns
-returns c = let s = c .before .before in (refl, sets-written (s .args .member ∷ s .args .returned ∷ repairWords (s .args .repair)) (s .args .answer .now) 0 (s .pre))
+returns c = let s = c .before .before in (refl, sets-written (s .args .member ∷ s .args .returned ∷ resultWords (s .args .repair) (s .args .book)) (s .args .answer .now) 0 (s .pre))
 
 pub put-turn-spec : {M : Type 1} → statement M
 put-turn-spec =
@@ -51,5 +54,6 @@ put-turn-spec =
     slice-write-answer-4
     slice-write-answer-5
     slice-write-answer-6
+    slice-write-answer-7
     same-length
     returns)

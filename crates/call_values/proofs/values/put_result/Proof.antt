@@ -1,0 +1,50 @@
+-- `call_values::values::put_result` meets its contract: five stores in a row are one written part.
+use mathlib.Core.Path.{refl}
+use native.Mathlib.Omega.{arith}
+use lib.ListN.{length-set}
+use Rattle.numbers.proofs.PartLaws.{sets-written}
+use Rattle.call_values.specs.Values.{resultWords}
+use borrow.Author.Needs.{needs}
+use Rattle.call_values.proofs.values.put_result.Statement.{statement}
+use Rattle.call_values.proofs.values.put_result.Tie as tie
+
+cast-answer : tie.Need-cast-answer
+cast-answer c = search needs
+
+slice-write-answer : tie.Need-slice-write-answer
+slice-write-answer c = search needs
+
+cast-answer-2 : tie.Need-cast-answer-2
+cast-answer-2 c = search needs
+
+slice-write-answer-2 : tie.Need-slice-write-answer-2
+slice-write-answer-2 c = simp length-set (omega arith)
+
+slice-write-answer-3 : tie.Need-slice-write-answer-3
+slice-write-answer-3 c = simp length-set (omega arith)
+
+slice-write-answer-4 : tie.Need-slice-write-answer-4
+slice-write-answer-4 c = simp length-set (omega arith)
+
+slice-write-answer-5 : tie.Need-slice-write-answer-5
+slice-write-answer-5 c = simp length-set (omega arith)
+
+same-length : tie.Need-same-length
+same-length c = search needs
+
+returns : tie.Need-returns
+returns c = let s = c .before .before in (refl, sets-written (resultWords (s .args .repair) (s .args .book)) (s .args .answer .now) 0 (s .pre))
+
+pub put-result-spec : {M : Type 1} → statement M
+put-result-spec =
+    tie.close
+    (tie.spec
+    cast-answer
+    slice-write-answer
+    cast-answer-2
+    slice-write-answer-2
+    slice-write-answer-3
+    slice-write-answer-4
+    slice-write-answer-5
+    same-length
+    returns)

@@ -1,0 +1,2 @@
+pub mod VerdictLaws
+pub mod TotalLaws
