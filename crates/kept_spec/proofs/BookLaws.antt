@@ -31,11 +31,15 @@ use Rattle.kept_spec.proofs.Demand3.{demand3, always-moves}
 
 -- ---- a list that was lent
 
+-- to a call that was lent the whole, and that leaves it as it was unless it is accepted: what the call left stands
+pub lent-left : {stands given left t : List ℕ} {A : Type 0} → Lent stands given left A t → given ≡ stands → ((A → ⊥) → left ≡ given) → t ≡ left
+lent-left {given = given} {left = left} (Lent.own before rest part whole) e h =
+    let w = part-whole before given rest (e ∙ part) in ap₂ (λ x y. x ++ (left ++ y)) (w .0) (w .1) ∙ append-nil left
+lent-left (Lent.elsewhere n) e h = sym (h n ∙ e)
+
 -- to a call that was accepted: it was the whole, and what was left is the whole
 pub lent-accepted : {stands given left t : List ℕ} {A : Type 0} → Lent stands given left A t → A → (given ≡ stands) × (t ≡ left)
-lent-accepted {given = given} {left = left} (Lent.own before rest part whole) a =
-    let w = part-whole before given rest (whole a ∙ part) in
-    (whole a, ap₂ (λ x y. x ++ (left ++ y)) (w .0) (w .1) ∙ append-nil left)
+lent-accepted (Lent.own before rest part whole) a = (whole a, lent-left (Lent.own before rest part whole) (whole a) (λ n. absurd (n a)))
 lent-accepted (Lent.elsewhere h) a = absurd (h a)
 
 -- to one that left it as it was
@@ -45,14 +49,14 @@ lent-same (Lent.elsewhere h) e = refl
 
 -- ---- one move
 
-abbrev BalanceIs : Answered StepResult → Standing → Standing → Type 0
+abbrev pub BalanceIs : Answered StepResult → Standing → Standing → Type 0
 BalanceIs a s t = t .balance ≡ balanceAfter a (s .balance)
 
-moves-promised : {s t : Standing} {e : Event} → Moves s e t → Promised e
+pub moves-promised : {s t : Standing} {e : Event} → Moves s e t → Promised e
 moves-promised (Moves.lent before rest p part w) = p
 moves-promised (Moves.elsewhere p h) = p
 
-moves-balance : {s t : Standing} {e : Event} → Moves s e t → BalanceIs (told e) s t
+pub moves-balance : {s t : Standing} {e : Event} → Moves s e t → BalanceIs (told e) s t
 moves-balance (Moves.lent before rest p part w) = refl
 moves-balance {s} {e = e} (Moves.elsewhere p h) = by-told (told e) h
   where

@@ -21,7 +21,7 @@ use Rattle.qlt_spec.specs.Masses.{treeMasses}
 use Rattle.qlt_spec.specs.Operation.{cleared}
 use Rattle.qlt_spec.proofs.MissLaws.{meets-room, meets-neg}
 use Rattle.qlt_spec.proofs.FactLaws.{reachable-sums}
-use Rattle.qlt_spec.proofs.OperationLaws.{fits-valid}
+use Rattle.qlt_spec.proofs.OperationLaws.{fits-valid, safe-lows-sum, safe-highs-sum}
 use Rattle.book_spec.specs.LentBook.{grownBuffer}
 use Rattle.kept_spec.specs.declared.Balance.{Balance}
 use Rattle.kept_spec.specs.declared.Opened.{Opened}
@@ -31,7 +31,7 @@ use Rattle.kept_spec.specs.Run.{Run, sumOf, Sound}
 use Rattle.kept_spec.specs.Account.{Event, Standing, told, Accepts, ForTotal, balanceAfter, gainBy, gain, Promised, Moves, Reachable, StepFacts, AtScale, Account}
 use Rattle.kept_spec.proofs.RunLaws.{run-keeps, run-gains, run-facts, all-map}
 use Rattle.kept_spec.proofs.OpenLaws.{opened-balance}
-use Rattle.kept_spec.proofs.StepLaws.{step-accepts, step-refuses, Past, refused-for-total, answer-tells, least-cells, most-cells, accepted-sum, accepted-facts, refused-keeps, step-account}
+use Rattle.kept_spec.proofs.StepLaws.{step-accepts, step-refuses, Past, refused-for-total, answer-tells, accepted-sum, accepted-facts, refused-keeps, step-account}
 
 -- ---- which calls are accepted
 
@@ -51,7 +51,7 @@ module _ (c : StepCall) where
   fits-reachable f =
       let l = f .shape .lengths in
       let t = reachable-sums F (fits-valid (f .shape) (f .values)) (f .values .order) (newTotal c) .1
-      (least-cells (c .lists) l (newTotal c) .0 (f .reach .least), most-cells (c .lists) l (newTotal c) .0 (f .reach .most)) in
+      (omega (arith, f .reach .least, safe-lows-sum l), omega (arith, f .reach .most, safe-highs-sum l)) in
       (t .0, subst (λ z. Meets (F .n) (F .safeLow) (F .safeHigh) z (t .0)) (f .whole) (t .1))
 
   -- past 1 to 7, 17 and 12, a call that can be reached fits
@@ -59,7 +59,7 @@ module _ (c : StepCall) where
   reachable-fits p t =
       let l = p .shape .lengths in
       let m = meets-sum (F .n) (F .safeLow) (F .safeHigh) (next c) (t .0) (t .1) in
-      let high = most-cells (c .lists) l (newTotal c) .1 (m .1 .1) in
+      let high : newTotal c ≤ sum (c .lists .safeHighs) = omega (arith, m .1 .1, safe-highs-sum l) in
       record {
         shape = p .shape;
         room = p .room;
@@ -69,7 +69,7 @@ module _ (c : StepCall) where
         adds-up = p .adds-up;
         whole = m .0;
         small = omega (arith, high, p .values .safe-highs);
-        reach = record { least = least-cells (c .lists) l (newTotal c) .1 (m .1 .0); most = high };
+        reach = record { least = omega (arith, m .1 .0, safe-lows-sum l); most = high };
       }
 
   -- accepted exactly if it fits, refused with a number at a place exactly if that rule is broken there after those before it
@@ -113,7 +113,7 @@ step-facts e p =
 
 module _ (s : Standing) (e : Event) (a b : List ℕ) (p : Promised e) (part : s .kept ≡ a ++ (e .call .kept ++ b)) where
   -- accepted, it was lent the whole, so what it leaves is the whole
-  lent-whole : e .call .kept ≡ s .kept → a ++ (e .kept ++ b) ≡ e .kept
+  pub lent-whole : e .call .kept ≡ s .kept → a ++ (e .kept ++ b) ≡ e .kept
   lent-whole k =
       let w = part-whole a (e .call .kept) b (k ∙ part) in
       ap₂ (λ x y. x ++ (e .kept ++ y)) (w .0) (w .1) ∙ append-nil (e .kept)

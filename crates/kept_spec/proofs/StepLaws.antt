@@ -18,11 +18,11 @@ use Rattle.numbers.proofs.TestLaws.{eq-means, le-means, and-means, injective}
 use Rattle.numbers.proofs.SignedLaws.{le-parts, parts-le, from-zero-whole}
 use Rattle.numbers.proofs.CheckLaws.{first-append, decides-unless, decides-then, decides-none, decides-append, holds-append, broken-append, total-decides, both-pass, both-first, both-second, on, no-pass, long-decides, stop}
 use Rattle.numbers.proofs.ChainLaws.{extends-own, extends-pass, extends-fail, isOne, not-broken, are-of, is-one, one-append, numbers-append, no-number, broken-later, fails-number, Passes, pass-all, all-pass, Verdict, verdict, passed, failed, refuse-append, refuse-with}
-use Rattle.qlt_spec.specs.Field.{Lists, scratchPerNode, field, sumCells, outcomeNumber, outcome, Outcome, attainable, below, above, nodes}
+use Rattle.qlt_spec.specs.Field.{scratchPerNode, field, outcomeNumber, outcome, Outcome, attainable, below, above, nodes}
 use Rattle.qlt_spec.specs.Masses.{treeMasses}
 use Rattle.qlt_spec.specs.Facts.{FieldFacts}
 use Rattle.qlt_spec.specs.Checks.{shapeOf, checkValues, checkReach}
-use Rattle.qlt_spec.specs.Operation.{reconstructChecks, reconstructVerdict, FieldLengths, shapeRules, valueRules, reachRule, ShapeFits, ValuesFit, ReconstructFits, repair, RepairTells, cleared}
+use Rattle.qlt_spec.specs.Operation.{reconstructChecks, reconstructVerdict, shapeRules, valueRules, reachRule, ShapeFits, ValuesFit, ReconstructFits, repair, RepairTells, cleared}
 use Rattle.qlt_spec.proofs.CheckLaws.{shape-decides, shape-holds, values-decides, values-hold, reaches-decides}
 use Rattle.qlt_spec.proofs.OperationLaws.{told-passed, told-result, told-masses, told-kept, told-failed}
 use Rattle.book_spec.specs.StartBook.{checkBuffer, bufferRule}
@@ -440,18 +440,6 @@ unfolding outcomeNumber
 outcome-small attainable = omega arith
 outcome-small below = omega arith
 outcome-small above = omega arith
-
-module _ (f : Lists) {k s : ℕ} (l : FieldLengths f k s) (M : ℕ) where
-  -- the sums of the safety bounds, by the lists and over the cells, bound the same totals
-  pub least-cells : (sum (f .safeLows) ≤ M) ↔ (sumCells (field f) (at (f .safeLows)) ≤ M)
-  least-cells =
-      let e = ap (λ n. sumTo ℕ-adds n (at (f .safeLows)) ≤ M) (l .safeLows) in
-      (λ h. subst (λ X. X) e h, λ h. subst (λ X. X) (sym e) h)
-
-  pub most-cells : (M ≤ sum (f .safeHighs)) ↔ (M ≤ sumCells (field f) (at (f .safeHighs)))
-  most-cells =
-      let e = ap (λ n. M ≤ sumTo ℕ-adds n (at (f .safeHighs))) (l .safeHighs) in
-      (λ h. subst (λ X. X) e h, λ h. subst (λ X. X) (sym e) h)
 
 module _ (c : StepCall) (fits : StepFits c) where
   -- the repair that it asks for fits

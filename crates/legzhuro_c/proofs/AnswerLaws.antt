@@ -8,12 +8,13 @@ use native.Mathlib.Omega.{arith}
 use lib.Dec.{leb}
 use lib.ListN.{length}
 use borrow.Author.Tests.{leb-true, le-leb}
+use Rattle.numbers.specs.declared.Checked.{Checked}
 use Rattle.numbers.specs.declared.Checked.the-variants.{Pass, Fail}
 use Rattle.numbers.specs.Sums.{ℕ-adds, sumTo}
 use Rattle.numbers.specs.Lists.{at}
-use Rattle.numbers.specs.Checks.{unless, both, rule, Broken, DecidesAll, RefuseWith}
+use Rattle.numbers.specs.Checks.{unless, both, first, rule, Broken, DecidesAll, RefuseWith}
 use Rattle.numbers.proofs.TestLaws.{Tested, holds, fails, tested, clash, le-means}
-use Rattle.numbers.proofs.CheckLaws.{on, last, both-first, both-second, decides-unless, decides-then, decides-none, decides-after}
+use Rattle.numbers.proofs.CheckLaws.{on, last, both-first, both-second, decides-unless, decides-then, decides-none, decides-append}
 use Rattle.numbers.proofs.ChainLaws.{refuse-with, refuse-append}
 use Rattle.qlt_spec.specs.Field.{Outcome, attainable, below, above, field, outcomeNumber, outcome}
 use Rattle.qlt_spec.specs.Facts.{FieldFacts}
@@ -86,15 +87,24 @@ module _ (file answer : List ℕ) where
       go (holds t) = write-accepts w .1 (answer-fits file e answer (leb-true _ _ t)) ∙ sym (ap (λ b. unless b 3 0) t)
       go (fails t) = write-refuses w 3 0 .1 (broken (λ h. clash (le-leb _ _ h) t)) ∙ sym (ap (λ b. unless b 3 0) t)
 
-  space-decides : fileVerdict file ≡ Pass → DecidesAll (both (writeVerdict w) Pass) (rule 3 Space ∷ [])
-  space-decides e =
-      subst (λ v. DecidesAll (both v Pass) (rule 3 Space ∷ [])) (sym (space-is e))
-      (decides-then _ Pass (rule 3 Space) [] (decides-unless _ 3 (le-means (512 * answerBlocks (fileCells file)) (length answer))) decides-none)
+  -- so the chain is that of reading and Reconstruct, then the buffer's length
+  abbrev space : Checked
+  space = unless (leb (512 * answerBlocks (fileCells file)) (length answer)) 3 0
+
+  pub call-is : callVerdict file answer ≡ first (fileVerdict file ∷ space ∷ [])
+  unfolding callVerdict
+  call-is = go (fileVerdict file) refl
+    where
+      go : (v : Checked) → fileVerdict file ≡ v → first (v ∷ writeVerdict w ∷ []) ≡ first (v ∷ space ∷ [])
+      go Pass e = ap (λ u. both u Pass) (space-is e)
+      go (Fail number place) e = refl
 
   -- accepted if every rule holds; refused with a number at a place if those before it hold and this one is broken there
   pub call-decides : DecidesAll (callVerdict file answer) (callRules file answer)
-  unfolding callVerdict
-  call-decides = decides-after (fileVerdict file) (both (writeVerdict w) Pass) (fileRules file) (rule 3 Space ∷ []) (file-decides file) space-decides
+  call-decides =
+      subst (λ v. DecidesAll v (callRules file answer)) (sym call-is)
+      (decides-append (fileVerdict file) (first (space ∷ [])) (fileRules file) (rule 3 Space ∷ []) (file-decides file)
+      (decides-then space Pass (rule 3 Space) [] (decides-unless _ 3 (le-means (512 * answerBlocks (fileCells file)) (length answer))) decides-none))
 
   pub call-refuses : (number place : ℕ) → (callVerdict file answer ≡ Fail number place) ↔ Broken (callRules file answer) number place
   call-refuses = call-decides .fails

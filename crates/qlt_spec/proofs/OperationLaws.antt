@@ -3,14 +3,15 @@
 use mathlib.Core.Path.{_≡_, refl, sym, _∙_, ap, subst}
 use mathlib.Core.Logic.{_↔_}
 use mathlib.Core.List.{List, [], _∷_}
-use Prim.Native.Nat.{ℕ, _*_, _≤_}
+use Prim.Native.Nat.{ℕ, _*_}
+use native.Mathlib.Omega.{arith}
 use lib.Dec.{leb}
 use lib.IntN.{ℤ}
 use lib.ListN.{length}
 use Rattle.numbers.specs.declared.Checked.{Checked}
 use Rattle.numbers.specs.declared.Checked.the-variants.{Pass, Fail}
 use Rattle.numbers.specs.Sums.{ℕ-adds, sumTo}
-use Rattle.numbers.specs.Lists.{at}
+use Rattle.numbers.specs.Lists.{at, sum}
 use Rattle.numbers.specs.Checks.{Answered, accepted, refused, answered, after, first, both, DecidesAll, Broken, RefuseWith}
 use Rattle.numbers.proofs.TestLaws.{injective}
 use Rattle.numbers.proofs.CheckLaws.{answered-accepted, answered-refused, after-fail, on, last, both-first, both-second, decides-append}
@@ -19,10 +20,10 @@ use Rattle.qlt_spec.specs.declared.Repair.{Repair}
 use Rattle.qlt_spec.specs.declared.Reconstructed.{Reconstructed}
 use Rattle.qlt_spec.specs.declared.Reconstructed.the-variants.{Done, Refused}
 use Rattle.qlt_spec.specs.Tree.{Valid}
-use Rattle.qlt_spec.specs.Field.{Lists, cells, nodes, scratchPerNode, field}
+use Rattle.qlt_spec.specs.Field.{Lists, cells, nodes, scratchPerNode, field, sumCells}
 use Rattle.qlt_spec.specs.Masses.{treeMasses}
 use Rattle.qlt_spec.specs.Checks.{shapeWith, shapeOf, checkValues, checkReach}
-use Rattle.qlt_spec.specs.Operation.{ReconstructCall, reconstructCall, reconstructChecksWith, reconstructVerdict, shapeRules, valueRules, reconstructRules, ShapeFits, ValuesFit, ReconstructFits, repair, reconstructTells, reconstructAnswer, cleared, Leaves, RepairTells, ReconstructContract}
+use Rattle.qlt_spec.specs.Operation.{ReconstructCall, reconstructCall, reconstructChecksWith, reconstructVerdict, FieldLengths, shapeRules, valueRules, reconstructRules, ShapeFits, ValuesFit, ReconstructFits, repair, reconstructTells, reconstructAnswer, cleared, Leaves, RepairTells, ReconstructContract}
 use Rattle.qlt_spec.specs.Facts.{sharedBy, FieldFacts}
 use Rattle.qlt_spec.proofs.FactLaws.{facts}
 use Rattle.qlt_spec.proofs.CheckLaws.{shape-decides, shape-fits, shape-by, values-decides, values-fit, reaches-decides, reaches, valid}
@@ -92,13 +93,21 @@ reconstruct-tells-injective = injective reconstructAnswer back
     back (Done r) = refl
     back (Refused number place) = refl
 
+-- the sums of the safety bounds are those over the cells
+module _ {f : Lists} {k s : ℕ} (l : FieldLengths f k s) where
+  pub safe-lows-sum : sum (f .safeLows) ≡ sumCells (field f) (at (f .safeLows))
+  safe-lows-sum = ap (λ n. sumTo ℕ-adds n (at (f .safeLows))) (l .safeLows)
+
+  pub safe-highs-sum : sum (f .safeHighs) ≡ sumCells (field f) (at (f .safeHighs))
+  safe-highs-sum = ap (λ n. sumTo ℕ-adds n (at (f .safeHighs))) (l .safeHighs)
+
 -- an accepted call's masses have every fact
 pub fits-facts : (c : ReconstructCall) → ReconstructFits c → FieldFacts (field (c .lists)) (c .total) (treeMasses (field (c .lists)) (c .total))
 fits-facts c f =
     let l = f .shape .lengths in
     facts (field (c .lists)) (fits-valid (f .shape) (f .values)) (f .values .order) (c .total)
-    (subst (λ n. sumTo ℕ-adds n (at (c .lists .safeLows)) ≤ c .total) (l .safeLows) (f .reach .least))
-    (subst (λ n. c .total ≤ sumTo ℕ-adds n (at (c .lists .safeHighs))) (l .safeHighs) (f .reach .most))
+    (omega (arith, f .reach .least, safe-lows-sum l))
+    (omega (arith, f .reach .most, safe-highs-sum l))
 
 -- ---- from the contract alone, by any verdict: Reconstruct's and Step's alike
 

@@ -202,6 +202,10 @@ pub record FileDone (file : List ℕ) (n : ℕ) (r : Repair) (ts : List ℤ) (ms
   pub targets : take n ts ≡ fileLists file .targets
 
 module _ {file : List ℕ} {s t : Lists} {masses masses′ : List ℕ} {scratch scratch′ : List ℤ} where
+  -- the masses of an accepted file stand at the front of their list
+  pub left-masses : {a : FileRepaired} → RepairsFile file s masses scratch a t masses′ scratch′ → fileVerdict file ≡ Pass → take (fileCells file) masses′ ≡ fileMasses file
+  left-masses p e = rw (p .writes, e, masses-are file) (front masses (fileCells file) _)
+
   pub file-done : {n : ℕ} {r : Repair} → RepairsFile file s masses scratch (Done n r) t masses′ scratch′ → FileDone file n r (t .targets) masses′
   unfolding fileTells fileVerdict
   file-done {n} {r} p =
@@ -216,7 +220,7 @@ module _ {file : List ℕ} {s t : Lists} {masses masses′ : List ℕ} {scratch 
         repair = ap (λ (z : Repaired). z .repair) (e .1);
         some = omega (arith, c, f .some);
         few = omega (arith, c, f .few);
-        masses = rw (p .writes, e .0, c, masses-are file) (front masses (fileCells file) _);
+        masses = ap (λ k. take k masses′) c ∙ left-masses p (e .0);
         targets = rw (p .reads, v, c) (ap (λ (z : Lists). z .targets) l);
       }
 
