@@ -3,6 +3,7 @@ pub mod RuleLaws
 pub mod AnswerLaws
 pub mod FamilyLaws
 pub mod TurnLaws
+pub mod RegionLaws
 pub mod ByteLaws
 pub mod WaitingLaws
 pub mod MemberLaws

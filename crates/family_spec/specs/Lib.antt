@@ -7,4 +7,5 @@ pub mod Rules
 pub mod Operations
 pub mod History
 pub mod Claims
+pub mod Region
 pub mod Example

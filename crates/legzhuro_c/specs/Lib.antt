@@ -1,3 +1,4 @@
 pub mod Calls
 pub mod FileCalls
 pub mod CallRuns
+pub mod Region

@@ -1,4 +1,4 @@
--- The definitions of the tree, the field and the operation Reconstruct; their laws are in proofs/.
+-- The definitions of the tree, the field and the operation Reconstruct, and of fields that differ only below a node; their laws are in proofs/.
 pub mod Tree
 pub mod Field
 pub mod Masses
@@ -6,3 +6,5 @@ pub mod Checks
 pub mod Facts
 pub mod Operation
 pub mod Former
+pub mod Region
+pub mod Example

@@ -1,6 +1,6 @@
-// QLT over whole masses: the tree, the field, the bounds in force, the whole tree and what holds of it, and what the operation Reconstruct
-// checks, answers and writes. Definitions (specs/) and laws (proofs/) alone; the code is in the crates `field_checks`, `solve` and
-// `reconstruct`. Relies on `caas_spec` and `numbers`.
+// QLT over whole masses: the tree, the field, the bounds in force, the whole tree and what holds of it, what the operation Reconstruct
+// checks, answers and writes, and that edits below a node stay there (02). Definitions (specs/) and laws (proofs/) alone; the code is in the
+// crates `field_checks`, `solve` and `reconstruct`. Relies on `caas_spec` and `numbers`.
 
 // The numbers of scratch for each node; `scratchPerNode` in specs/Field.antt.
 pub const SCRATCH_PER_NODE: usize = 4;

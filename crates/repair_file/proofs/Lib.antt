@@ -3,3 +3,4 @@ pub mod FileLaws
 pub mod FormerLaws
 pub mod VerdictLaws
 pub mod BackLaws
+pub mod RegionLaws

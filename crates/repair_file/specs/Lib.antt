@@ -1,2 +1,3 @@
 pub mod RepairFile
 pub mod Former
+pub mod Region
