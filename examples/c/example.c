@@ -1,8 +1,8 @@
 /* Opens a kept field, starts its source book, steps it four times (the second step is refused for its total, the third for its scale), makes
  * bounds from mixing ratios (at first with a ratio that is refused) and steps the field with them, reports its book, steps two tracers under one
  * cap (a step that would pass the cap is refused), each with a book of its own, imports a cell's doubles, exports a mass as a double and one as a
- * binary32, writes the field as a file and repairs that file, and repairs the file named. Usage: example FIELD_FILE. The status is 0 if both were
- * repaired, else 1. */
+ * binary32, writes the field as a file, also with two cells edited, and repairs these files, and repairs the file named. Usage: example
+ * FIELD_FILE. The status is 0 if all were repaired, else 1. */
 #include <inttypes.h>
 #include <stdio.h>
 
@@ -237,15 +237,25 @@ static int repair(const uint8_t *file, size_t length) {
     return 0;
 }
 
-static int repair_written(uint32_t total) {
+/* Writes the field with these targets as a file, and repairs that. */
+static int repair_written(const char *name, const int32_t *written, uint32_t total) {
     static uint8_t file[LEGZHURO_FIELD_FILE(CELLS, NODES)];
 
-    printf("written:");
-    uint64_t returned = legzhuro_write_field(CELLS, NODES, total, targets, CELLS, field_bounds.lows, CELLS, field_bounds.highs, CELLS,
+    printf("%s:", name);
+    uint64_t returned = legzhuro_write_field(CELLS, NODES, total, written, CELLS, field_bounds.lows, CELLS, field_bounds.highs, CELLS,
                                              field_bounds.safe_lows, CELLS, field_bounds.safe_highs, CELLS, weights, CELLS, parents, NODES,
                                              file, sizeof file);
     if (returned != 0) return refused(returned);
     return repair(file, sizeof file);
+}
+
+/* Cells 0 and 1 lie below node 4. Edited so that their targets add up to what they did, they leave the masses of cells 2 and 3 as they were; with
+ * another sum these move. */
+static int repair_edited(uint32_t total) {
+    const int32_t edited[CELLS] = {6, 1, 4, 5}, another[CELLS] = {6, 9, 4, 5};
+
+    if (repair_written("written", targets, total) != 0 || repair_written("edited", edited, total) != 0) return 1;
+    return repair_written("another sum", another, total);
 }
 
 static int repair_read(FILE *in) {
@@ -272,7 +282,7 @@ int main(int argc, char **argv) {
     step(balance, kept, &book, -9, 2, &field_bounds);
     step(balance, kept, &book, -9, 1, &field_bounds);
     if (step_by_ratios(balance, kept, &book) != 0 || report_book(&book) != 0) return 1;
-    if (step_tracers() != 0 || convert() != 0 || repair_written(16) != 0) return 1;
+    if (step_tracers() != 0 || convert() != 0 || repair_edited(16) != 0) return 1;
     int status = repair_read(in);
     fclose(in);
     return status;

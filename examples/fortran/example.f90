@@ -1,7 +1,8 @@
 ! Opens a kept field, starts its source book, steps it four times (the second step is refused for its total, the third for its
 ! scale), makes bounds from mixing ratios (at first with a ratio that is refused) and steps the field with them, reports its book,
 ! steps two tracers under one cap (a step that would pass the cap is refused), each with a book of its own, exports the masses as
-! doubles and as binary32 values, writes the field as a file and repairs that file, and repairs the file named.
+! doubles and as binary32 values, writes the field as a file, also with two cells edited, and repairs these files, and repairs the
+! file named.
 ! Usage: example FIELD_FILE. To build it, after rt staticlib legzhuro_c:
 ! gfortran -Jtarget include/legzhuro.f90 examples/fortran/example.f90 target/staticlib/liblegzhuro_c.a -o target/example_fortran
 program example
@@ -32,7 +33,11 @@ program example
     call step(100, 1)
     call step(-9, 2)
     call step(-9, 1)
-    call repair_written(16)
+    ! Cells 0 and 1 lie below node 4. Edited so that their targets add up to what they did, they leave the masses of cells 2 and 3
+    ! as they were; with another sum these move.
+    call repair_written('written', targets, 16)
+    call repair_written('edited', [6, 1, 4, 5], 16)
+    call repair_written('another sum', [6, 9, 4, 5], 16)
     call make_bounds(legzhuro_ratio + 1)
     call make_bounds(legzhuro_ratio/4)
     call step(3, 1)
@@ -222,14 +227,16 @@ contains
             ' change ', answer(4), ' shared ', answer(5), ' masses', masses(:answer(1))
     end subroutine repair
 
-    subroutine repair_written(total)
-        integer(c_int32_t), intent(in) :: total
+    ! Writes the field with these targets as a file, and repairs that.
+    subroutine repair_written(name, written, total)
+        character(*), intent(in) :: name
+        integer(c_int32_t), intent(in) :: written(cells), total
         integer(c_int8_t) :: file(legzhuro_field_file(cells, nodes))
 
-        returned = legzhuro_write_field(cells, nodes, total, targets, cells, lows, cells, highs, cells, safe_lows, cells, &
+        returned = legzhuro_write_field(cells, nodes, total, written, cells, lows, cells, highs, cells, safe_lows, cells, &
                                         safe_highs, cells, weights, cells, parents, nodes, file, size(file, kind=c_size_t))
         if (returned /= 0) error stop 'the field was refused'
-        call repair('written', file)
+        call repair(name, file)
     end subroutine repair_written
 
     subroutine repair_read()
