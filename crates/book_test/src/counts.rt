@@ -1,10 +1,6 @@
 // Counters and check numbers.
 ghost use Prim.Native.Nat.{_<_};
-
-// One more. Counters and totals stay below 1000000000.
-pub fn more(x: u32) -> u32 {
-    x % 1000000000 + 1
-}
+use test_support::draws::more;
 
 // One more with a number.
 pub fn count(number: u32, counts: &mut [u32; 22]) {

@@ -3,10 +3,10 @@ ghost use Prim.Native.Nat.{_<_, _≤_};
 use crate::buffer::blocks_of;
 use crate::buffer::raise_byte;
 use crate::buffer::set_word;
-use crate::counts::more;
 use kept_spec::Balance;
 use test_support::draws::draw;
 use test_support::draws::less;
+use test_support::draws::more;
 
 // The balance given: the one standing, or by fault 5 one with another total.
 pub fn given_balance(balance: Balance, fault: u32) -> Balance {

@@ -9,15 +9,15 @@
 // the targets of the case, the bounds made, weights of 1, one root above all cells, and a book without records. It has `step`, `done` with outcome, total, change and the
 // sum shared out, or `refused` with number and place, and the kept masses as the call left them. The cases end with the input, of which at most
 // 65,536 bytes are read.
-// Relies on `bounds`, which it tests, and `kept`, `book`, `bounds_spec`, `kept_spec`, `book_spec` and `qlt_spec` for the answers, `test_support`, `numbers`, and the
+// Relies on `bounds`, which it tests, and `kept`, `bounds_spec`, `kept_spec` and `qlt_spec` for the answers, `test_support`, `numbers`, and the
 // kit's `io` and `libc`.
 ghost use Prim.Native.Nat.{_+_, _*_, _≤_};
 ghost use lib.ListN.{length};
-use book_spec::BookStarted;
 use bounds_spec::Bounded;
 use input::Case;
 use kept_spec::Balance;
 use qlt_spec::SCRATCH_PER_NODE;
+use test_support::books::start;
 use test_support::input::later;
 use test_support::input::skip;
 use test_support::runs::fill;
@@ -25,17 +25,6 @@ use test_support::runs::fill_targets;
 
 mod input;
 mod output;
-
-// Starts a book from the total 0, and gives its length.
-fn start(book: &mut [u8]) -> usize {
-    match book::start_book(0, book) {
-        BookStarted::Length(length) => length,
-        BookStarted::Refused {
-            number: _,
-            place: _,
-        } => 0,
-    }
-}
 
 // Steps the kept masses, which have total 0 at scale 0, with a book that opens with it, and prints the line.
 fn step_lists(
@@ -53,7 +42,7 @@ fn step_lists(
     requires { ⌜ length (now kept) ≤ 600 ⌝ }
 {
     let mut book = [0u8; 32768];
-    let told = start(&mut book);
+    let told = start(0, &mut book);
     let answer = kept::step(
         Balance { total: 0, scale: 0 },
         kept,

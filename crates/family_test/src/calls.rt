@@ -32,6 +32,7 @@ use kept_spec::Opened;
 use kept_spec::Stepped;
 use qlt_spec::Repair;
 use test_support::draws::draw;
+use test_support::draws::more;
 use test_support::fields::cross;
 use test_support::fields::fill;
 use test_support::fields::fill_parents;
@@ -40,11 +41,6 @@ use turns::next_member;
 use turns::register;
 use turns::turn;
 use turns::waiting_count;
-
-// One more. Counters stay below 1000000000.
-fn more(x: u32) -> u32 {
-    x % 1000000000 + 1
-}
 
 // The check number with one value more.
 fn taken(told: u64, value: u64) -> u64 {

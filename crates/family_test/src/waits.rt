@@ -1,15 +1,11 @@
 // How long members wait, and the turns that were made, in one list: for each of 8 members the turns that have passed since it began to wait, then
 // the turns that served a member, the idle ones, and the longest wait.
 ghost use Prim.Native.Nat.{_<_};
+use test_support::draws::more;
 
 // Whether a member waits.
 fn waits(waiting: u8, member: u32) -> bool {
     (waiting as u32) >> (member % 8) & 1 == 1
-}
-
-// One more. Counters stay below 1000000000.
-fn more(x: u32) -> u32 {
-    x % 1000000000 + 1
 }
 
 fn larger(a: u32, b: u32) -> u32 {

@@ -5,15 +5,16 @@
 // papers' own words in another language, and not by this program. Each call is lent the field's book, started from the total at the opening and
 // again from the total standing when it has 64 blocks; nothing of it is printed. Masses stay far below 1000000000, and what is shared out far below
 // 1000000000000, so that the remainders by these, which rule out overflow, change none.
-// Relies on `kept`, which it tests, `book`, `kept_spec`, `book_spec` and `qlt_spec` for the answers, `test_support`, and `numbers` in proofs.
+// Relies on `kept`, which it tests, `kept_spec` and `qlt_spec` for the answers, `test_support`, and `numbers` in proofs.
 ghost use Prim.Native.Nat.{_<_, _≤_};
-use book_spec::BookStarted;
 use kept_spec::Balance;
 use kept_spec::Opened;
 use kept_spec::Stepped;
 use qlt_spec::Repair;
+use test_support::books::start;
 use test_support::draws::draw;
 use test_support::draws::less;
+use test_support::draws::more;
 use test_support::fields::cross;
 use test_support::fields::fill;
 use test_support::fields::fill_parents;
@@ -31,11 +32,6 @@ pub struct Run {
     pub balance: Balance,
     pub length: usize,
     pub shared: u64,
-}
-
-// One more. Counters and totals stay below 1000000000.
-fn more(x: u32) -> u32 {
-    x % 1000000000 + 1
 }
 
 // The total of the balance given: the one standing, or by fault 1 another.
@@ -124,17 +120,6 @@ fn counted(run: Run, state: u32, told: usize, answer: Stepped) -> Run {
             length,
         } => accepted(run, state, repair, balance, length),
         Stepped::Refused { number, place: _ } => refused(run, state, number, told),
-    }
-}
-
-// Starts a book from a total, and gives its length.
-fn start(total: u32, book: &mut [u8; 32768]) -> usize {
-    match book::start_book(total, book) {
-        BookStarted::Length(length) => length,
-        BookStarted::Refused {
-            number: _,
-            place: _,
-        } => 0,
     }
 }
 

@@ -1,4 +1,4 @@
-// Numbers drawn by a generator whose state goes by value, and differences that cannot overflow.
+// Numbers drawn by a generator whose state goes by value, and counts and differences that cannot overflow.
 ghost use Prim.Native.Nat.{_<_};
 
 // A number drawn, and the state behind it.
@@ -22,6 +22,11 @@ pub fn draw(state: u32, k: u32) -> Drawn
         state: after,
         value: after / 65536 % k,
     }
+}
+
+// One more. Counters and totals stay below 1000000000.
+pub fn more(x: u32) -> u32 {
+    x % 1000000000 + 1
 }
 
 // What the first of two numbers is above the second, or 0.

@@ -117,7 +117,7 @@ pub fn print_repair(outcome: u32, total: u32, change: u64, shared: u64) {
 }
 
 // Each number of a list.
-fn print_each(xs: &[u32]) {
+pub fn print_each(xs: &[u32]) {
     let mut i: usize = 0;
     while i < xs.len() {
         print_number(wide(xs[i]));

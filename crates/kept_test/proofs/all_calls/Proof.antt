@@ -11,6 +11,9 @@ Inv-loop kept₀ book₀ length now₀ i₀ kept book now i = Unit
 abbrev μ-loop : tie.MeasureT-loop
 μ-loop kept₀ book₀ length now₀ i₀ kept book now i = 24 - i
 
+slice-aggregate-start : tie.Need-slice-aggregate-start Inv-loop μ-loop
+slice-aggregate-start c = search needs
+
 start-requires : tie.Need-start-requires Inv-loop μ-loop
 start-requires c κs = search needs
 
@@ -44,6 +47,7 @@ all-calls-spec =
     (tie.spec
     Inv-loop
     μ-loop
+    slice-aggregate-start
     start-requires
     loop-holds
     some-calls-requires
