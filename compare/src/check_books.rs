@@ -96,6 +96,7 @@ pub fn starts(tally: &mut Tally, random: &mut Random, count: u64) {
 // ---- books of a run ----
 
 /// A book that the steps of a run are lent, and what it must hold by the run's own record.
+#[derive(Clone)]
 pub struct Volume {
     pub lent: BookBuffer,
     own: Book,

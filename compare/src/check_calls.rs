@@ -370,7 +370,7 @@ fn break_kept(random: &mut Random, kept: &mut [u32]) {
 
 /// Gives the step another scale to name, the record another scale, or both the same one. With both the same and in range Step is right to
 /// accept.
-fn break_scale(random: &mut Random, call: &mut StepCall) {
+pub fn break_scale(random: &mut Random, call: &mut StepCall) {
     let wrong = wrong_scale(random);
     let other = (call.scale % (MAX_SCALE + 1) + random.between(1, i64::from(MAX_SCALE)) as u32) % (MAX_SCALE + 1);
     // Out of range, and alike in the lower bits.

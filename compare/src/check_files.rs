@@ -50,8 +50,8 @@ pub fn told_cells(file: &[u8]) -> usize {
     }
 }
 
-/// Runs both sides on an answer buffer of the length given.
-pub fn compare_file(tally: &mut Tally, workspace: &mut FileWorkspace, random: &mut Random, file: &[u8], length: usize) {
+/// Runs both sides on an answer buffer of the length given; returns what the library gives, and its buffer.
+pub fn compare_file(tally: &mut Tally, workspace: &mut FileWorkspace, random: &mut Random, file: &[u8], length: usize) -> (u32, Vec<u8>) {
     let mut mine: Vec<u8> = (0..length).map(|_| random.bits() as u8).collect();
     let mut theirs = mine.clone();
     let result = reconstruct_file(workspace, file, &mut mine).map(|(repair, _)| repair.outcome);
@@ -63,6 +63,7 @@ pub fn compare_file(tally: &mut Tally, workspace: &mut FileWorkspace, random: &m
         let sides = format!("second implementation {expected}, library {got}, first other byte {first:?}");
         format!("file {file:?}, answer buffer of {length}: {sides}; the listing is {}", listing(workspace, file))
     });
+    (got, theirs)
 }
 
 /// Field files through the call.

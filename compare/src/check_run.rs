@@ -15,6 +15,9 @@ use crate::tree::{sum, Field, Workspace};
 /// Four years, one of them a leap year.
 pub const FOUR_YEARS: u64 = (4 * 365 + 1) * 48;
 
+/// The total that a run opens with.
+pub const OPENING: u32 = 1_000_000;
+
 /// A field of the next step: targets near the kept masses, and bounds for which the total wanted has the outcome wanted or nearly so.
 /// They stand around masses that add up to the total, so that the step can be accepted.
 fn next_field(random: &mut Random, kept: &[u32], wanted: u32, outcome: u64) -> Field {
@@ -85,15 +88,20 @@ pub fn miss_total(random: &mut Random, call: &mut StepCall) {
     call.source = (random.pick(&beyond) - i64::from(call.balance.total)).clamp(i64::from(i32::MIN), i64::from(i32::MAX)) as i32;
 }
 
-/// Makes steps until `steps` have been accepted. Before so many calls in a hundred the book is exchanged for another.
-pub fn run(tally: &mut Tally, random: &mut Random, cells: usize, steps: u64, exchanges: u64) {
-    let (mut kept, scale) = (random::partition(random, 1_000_000, cells), sound_scale(random));
+/// Opens a kept field by the library.
+pub fn open(tally: &mut Tally, kept: &[u32], scale: u32) -> Balance {
     let mut answer = [0; 2];
-    let returned = calls::open(&kept, scale, &mut answer);
-    if returned != 0 || answer != [sum(&kept), u64::from(scale)] {
+    let returned = calls::open(kept, scale, &mut answer);
+    if returned != 0 || answer != [sum(kept), u64::from(scale)] {
         tally.difference(format!("open {kept:?} scale {scale}: {returned:#x} {answer:?}"));
     }
-    let opened = Balance { total: answer[0] as u32, scale: answer[1] as u32 };
+    Balance { total: answer[0] as u32, scale: answer[1] as u32 }
+}
+
+/// Makes steps until `steps` have been accepted. Before so many calls in a hundred the book is exchanged for another.
+pub fn run(tally: &mut Tally, random: &mut Random, cells: usize, steps: u64, exchanges: u64) {
+    let (mut kept, scale) = (random::partition(random, OPENING, cells), sound_scale(random));
+    let opened = open(tally, &kept, scale);
     let (mut workspace, mut volume) = (Workspace::default(), Volume::start(tally, random, opened.total));
     let (mut balance, mut sources, mut accepted, mut full_books) = (opened, 0, 0, 0);
     while accepted < steps {

@@ -1,8 +1,8 @@
-//! A second implementation of the paper 01 and of tickets 1 to 12 of 02 (`split`, `tree`, `operations`, `doubles`, `files`, `listing`,
+//! A second implementation of the paper 01 and of tickets 1 to 13 of 02 (`split`, `tree`, `operations`, `doubles`, `files`, `listing`,
 //! `query`, `ratios`, `families`, `book`), written from the papers alone and sharing no code with the proved library; the files of the test
 //! programs (`program`, `numbers`, `query_cases`); and, with the feature `library`, what compares the library with it: the calls from C
-//! (`calls`, and `from_c` for the second implementation's side), inputs (`random`, `random_books`, `damage`), and the checks that the comparison program
-//! runs (`tally`, `shared` and `check_...`).
+//! (`calls`, and `from_c` for the second implementation's side), inputs (`random`, `random_books`, `damage`, `region`), and the checks that
+//! the comparison program runs (`tally`, `shared` and `check_...`).
 
 pub mod book;
 #[cfg(feature = "library")]
@@ -26,6 +26,8 @@ pub mod check_published;
 #[cfg(feature = "library")]
 pub mod check_query;
 #[cfg(feature = "library")]
+pub mod check_regions;
+#[cfg(feature = "library")]
 pub mod check_run;
 #[cfg(feature = "library")]
 pub mod check_turns;
@@ -43,6 +45,7 @@ pub mod query_cases;
 pub mod random;
 pub mod random_books;
 pub mod ratios;
+pub mod region;
 #[cfg(feature = "library")]
 pub mod shared;
 pub mod split;

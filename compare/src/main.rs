@@ -6,7 +6,7 @@
 use compare::random::Random;
 use compare::tally::Tally;
 use compare::{check_books, check_bounds, check_calls, check_examples, check_families, check_files, check_histories, check_published};
-use compare::{check_query, check_run, check_turns};
+use compare::{check_query, check_regions, check_run, check_turns};
 use std::path::Path;
 
 const SEED: u64 = 20190525;
@@ -57,6 +57,12 @@ const BOOK_START: [usize; 2] = [3, 13];
 const BOOK_REPORT: [usize; 5] = [3, 14, 15, 16, 12];
 // The program has a buffer that is long enough.
 const BOOK_PROGRAM: [usize; 4] = [14, 15, 16, 12];
+// Files of sound fields.
+const REGION_FILE: [usize; 1] = [8];
+// Steps by sound fields: what the book, the total and the scale are refused with.
+const REGION_STEP: [usize; 9] = [3, 17, 12, 13, 8, 14, 15, 16, 21];
+// Steps by sound fields, with books in order.
+const REGION_RUN: [usize; 3] = [13, 8, 21];
 
 const OUTCOMES: [usize; 3] = [0, 1, 2];
 
@@ -141,6 +147,16 @@ fn main() {
     tally.end_part("book report", &BOOK_REPORT, &[]);
     check_books::printed_reports(&mut tally, &mut random, &programs.join("legzhuro_book"), scaled(4_000));
     tally.end_part("book program", &BOOK_PROGRAM, &[]);
+    check_regions::files(&mut tally, &mut random, scaled(40_000));
+    tally.end_part("region files", &REGION_FILE, &OUTCOMES);
+    check_regions::steps(&mut tally, &mut random, scaled(40_000));
+    tally.end_part("region steps", &REGION_STEP, &OUTCOMES);
+    for (cells, runs, steps) in [(8, 4, 1_000), (24, 2, 1_500), (200, 2, 500)] {
+        check_regions::runs(&mut tally, &mut random, cells, runs, scaled(steps));
+        tally.end_part(&format!("region runs of {cells} cells"), &REGION_RUN, &OUTCOMES);
+    }
+    check_regions::changed_sums(&mut tally, &mut random, scaled(20_000));
+    tally.end_part("changed sums", &REGION_FILE, &OUTCOMES);
 
     if !tally.passes() {
         std::process::exit(1);

@@ -25,7 +25,7 @@ impl Draws {
 }
 
 /// Draws the cells of a field around the kept masses.
-fn draw_cells(draws: &mut Draws, kept: &[u32; CELLS]) -> Field {
+pub fn draw_cells(draws: &mut Draws, kept: &[u32; CELLS]) -> Field {
     let mut field = Field::default();
     for &mass in kept {
         let (target, below, above) = (draws.below(201), draws.below(150), draws.below(150));
@@ -41,12 +41,20 @@ fn draw_cells(draws: &mut Draws, kept: &[u32; CELLS]) -> Field {
     field
 }
 
-/// Draws a tree, and then the cells.
-pub fn draw_field(draws: &mut Draws, kept: &[u32; CELLS]) -> Field {
-    let parents = match draws.below(3) {
+/// The kinds of trees over the cells.
+pub const TREES: u32 = 3;
+
+/// The tree of a kind: flat, balanced or a caterpillar.
+pub fn tree(kind: u32) -> Vec<u32> {
+    match kind {
         0 => flat(CELLS),
         1 => binary(CELLS),
         _ => chain(CELLS),
-    };
+    }
+}
+
+/// Draws a tree, and then the cells.
+pub fn draw_field(draws: &mut Draws, kept: &[u32; CELLS]) -> Field {
+    let parents = tree(draws.below(TREES));
     Field { parents, ..draw_cells(draws, kept) }
 }

@@ -12,6 +12,7 @@ mod kept;
 mod output;
 mod query;
 mod reconstruct;
+mod region;
 mod report;
 mod runs;
 mod split;
@@ -23,7 +24,7 @@ use std::path::{Path, PathBuf};
 type Expected = fn(&Program) -> String;
 
 /// The test programs by their crates: the one place where these are named.
-const PROGRAMS: [(&str, Expected); 13] = [
+const PROGRAMS: [(&str, Expected); 14] = [
     ("split_test", split::expected),
     ("reconstruct_test", reconstruct::expected),
     ("kept_test", kept::expected),
@@ -37,6 +38,7 @@ const PROGRAMS: [(&str, Expected); 13] = [
     ("family_test", family::expected),
     ("book_test", book::expected),
     ("legzhuro_book", book::expected_line),
+    ("region_test", region::expected),
 ];
 
 /// Compares an output with the one stored: the number of lines, or the first line that differs.

@@ -52,8 +52,13 @@ pub fn words(words: &[u32]) -> String {
 
 /// What a repair gives beside the masses, or its refusal.
 pub fn repaired(result: Result<Repair, Refusal>) -> String {
+    repaired_as("done", result)
+}
+
+/// The same with another word before what it gives.
+pub fn repaired_as(word: &str, result: Result<Repair, Refusal>) -> String {
     match result {
-        Ok(repair) => format!("done {} {} {} {}", repair.outcome, repair.total, repair.change, repair.shared),
+        Ok(repair) => format!("{word} {} {} {} {}", repair.outcome, repair.total, repair.change, repair.shared),
         Err(refusal) => refused(refusal),
     }
 }
