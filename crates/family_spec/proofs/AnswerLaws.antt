@@ -139,7 +139,7 @@ module _ (f : Family) (i : ℕ) (x : StepInputs) where
   sourceCheck = checkSource (x .source) (newTotal c) (room f i)
 
   -- these, and then Step's checks with 20 put in
-  verdict-is : stepMemberVerdict f i x ≡ both ownChecks (stepVerdictWith (sourceCheck ∷ []) c)
+  pub verdict-is : stepMemberVerdict f i x ≡ both ownChecks (stepVerdictWith (sourceCheck ∷ []) c)
   unfolding steppingVerdict stepVerdictWith
   verdict-is = sym (both-assoc (checkOpened i (memberAt f i)) (checkSameCells (cells (x .lists)) (f .cells)) (stepVerdictWith (sourceCheck ∷ []) c))
 

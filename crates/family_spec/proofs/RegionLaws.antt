@@ -1,26 +1,26 @@
 -- Edits stay in their region, of a member's steps and of turns, from their contracts alone: Step's law with the checks of a family put in. Assumes
 -- nothing.
-use mathlib.Core.Path.{_≡_, refl, sym, _∙_, ap, ap₂, subst}
+use mathlib.Core.Path.{_≡_, sym, _∙_, ap, ap₂, subst}
 use mathlib.Core.List.{List, [], _∷_}
 use Prim.Native.Nat.{ℕ}
 use lib.IntN.{ℤ}
-use Rattle.numbers.specs.declared.Checked.{Checked}
 use Rattle.numbers.specs.declared.Checked.the-variants.{Pass}
 use Rattle.numbers.specs.Checks.{after, both}
-use Rattle.numbers.proofs.CheckLaws.{both-second}
 use Rattle.qlt_spec.specs.Field.{cells}
 use Rattle.qlt_spec.specs.Operation.{ReconstructFits}
-use Rattle.kept_spec.specs.Step.{StepCall, newTotal, repairCall, stepVerdictWith}
-use Rattle.kept_spec.proofs.StepLaws.{with-fits, fits-repair}
+use Rattle.kept_spec.specs.Step.{StepCall, repairCall}
+use Rattle.kept_spec.proofs.StepLaws.{step-accepts, fits-repair}
 use Rattle.kept_spec.proofs.RegionLaws.{new-same, step-verdict-same, steps-same}
 use Rattle.family_spec.specs.declared.Family.{Family}
 use Rattle.family_spec.specs.declared.FamilyStepped.{FamilyStepped}
 use Rattle.family_spec.specs.declared.FamilyTurned.{FamilyTurned}
 use Rattle.family_spec.specs.declared.NextMember.the-variants as next
 use Rattle.family_spec.specs.Family.{memberAt, room, terms, put, openWith}
-use Rattle.family_spec.specs.Member.{StepInputs, callOf, checkOpened, checkSameCells, checkSource, steppingVerdict}
+use Rattle.family_spec.specs.Member.{StepInputs, callOf, checkOpened, checkSameCells, checkSource}
 use Rattle.family_spec.specs.Operations.{stepMemberVerdict, StepMemberContract, nextMember, serve, ServingTurn, TurnBy, TurnContract}
 use Rattle.family_spec.specs.Region.{EditedInputs, SameMemberSteps, SameTurns}
+use Rattle.family_spec.proofs.RuleLaws.{stepping-steps}
+use Rattle.family_spec.proofs.AnswerLaws.{verdict-is}
 
 module _ (f : Family) (i : ℕ) (x y : StepInputs) {v : ℕ} (h : EditedInputs f i x y v) where
   abbrev c : StepCall
@@ -29,24 +29,12 @@ module _ (f : Family) (i : ℕ) (x y : StepInputs) {v : ℕ} (h : EditedInputs f
   abbrev d : StepCall
   d = callOf (terms f) (memberAt f i) y
 
-  -- 20
-  abbrev own : StepInputs → Checked
-  own z = checkSource (z .source) (newTotal (callOf (terms f) (memberAt f i) z)) (room f i)
-
-  -- the family's checks, then those of the step
-  member-chain :
-      (z : StepInputs)
-      → stepMemberVerdict f i z
-      ≡ both (checkOpened i (memberAt f i)) (both (checkSameCells (cells (z .lists)) (f .cells)) (stepVerdictWith (own z ∷ []) (callOf (terms f) (memberAt f i) z)))
-  unfolding steppingVerdict stepVerdictWith
-  member-chain z = refl
-
   member-verdict-same : stepMemberVerdict f i x ≡ stepMemberVerdict f i y
   member-verdict-same =
-      member-chain x
-      ∙ ap₂ (λ a b. both (checkOpened i (memberAt f i)) (both a b)) (ap (λ n. checkSameCells n (f .cells)) (h .fields .tree .cells))
+      verdict-is f i x
+      ∙ ap₂ (λ n v. both (both (checkOpened i (memberAt f i)) (checkSameCells n (f .cells))) v) (h .fields .tree .cells)
       (step-verdict-same c d h (ap₂ (λ s t. checkSource s t (room f i) ∷ []) (h .source) (new-same c d h)))
-      ∙ sym (member-chain y)
+      ∙ sym (verdict-is f i y)
 
   pub member-region :
       {r q : FamilyStepped} {xs ys book book′ : List ℕ} {scratch scratch′ : List ℤ}
@@ -59,7 +47,7 @@ module _ (f : Family) (i : ℕ) (x y : StepInputs) {v : ℕ} (h : EditedInputs f
       }
     where
       fits : stepMemberVerdict f i x ≡ Pass → ReconstructFits (repairCall c)
-      fits e = fits-repair c (with-fits c (own x) (both-second (checkSameCells _ _) _ (both-second (checkOpened _ _) _ (sym (member-chain x) ∙ e))))
+      fits e = fits-repair c (step-accepts c .0 (stepping-steps (terms f) i (memberAt f i) (room f i) x e))
 
   -- of two turns that serve it
   pub turn-region :
