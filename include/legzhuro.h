@@ -76,9 +76,9 @@ extern "C" {
  * and check words; the scope paper has them ('Files'). In block 1 of an answer the two words that follow the change, spare in that paper,
  * hold the sum shared out (see legzhuro_step), low word first. legzhuro_write_field makes a field file, legzhuro_read_answer takes an answer
  * apart.
- * Edits stay in their region: of two files with the same tree and total, neither refused with 1 to 7, that differ only in cells below one node,
- * where the six sums of these cells' targets, bounds and weights agree, both are refused with 8 or none is, and both answers have the same outcome
- * and the same mass of every other cell. The same holds of two steps with one balance, source, scale and book (legzhuro_step).
+ * Edits stay in their region: take two files with the same tree and total that no check before 8 refuses and that differ only in cells below one
+ * node. If the six sums of these cells' targets, bounds and weights agree, both are refused with 8 or none is, and both answers have the same
+ * outcome and the same mass of every other cell. The same holds of two steps with one balance, source, scale and book (legzhuro_step).
  * Refusals: those of reading (14; 15, 16, 1, 2 of block 1; 14; 15, 16 of later blocks), then those of the repair (4 to 8), then 3 (`answer`
  * is too short for the file). */
 uint32_t legzhuro_reconstruct(const uint8_t *file, size_t file_len, uint8_t *answer, size_t answer_len);
