@@ -77,7 +77,7 @@ pub fn cross(crossed: bool, lows: &mut [u32; 8], highs: &mut [u32; 8]) {
 
 // The number of nodes of a tree: the flat one has an inner node, the others have seven.
 pub fn nodes(kind: u32) -> usize
-    ensures { λ r. ⌜ (0 < r) × (r ≤ 15) ⌝ }
+    ensures { λ r. ⌜ (8 < r) × (r ≤ 15) ⌝ }
 {
     if kind == 0 { 9 } else { 15 }
 }

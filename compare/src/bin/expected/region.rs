@@ -129,7 +129,10 @@ fn draw_round(draws: &mut Draws, kept: &Masses) -> Round {
         1 => 2_000_000,
         _ => drawn,
     };
-    let top = draws.below(field.parents.len() as u32) as usize;
+    // In three of four rounds an inner node, where there is one below the root.
+    let any = draws.below(4) == 0;
+    let first = if kind == 0 || any { 0 } else { CELLS };
+    let top = first + draws.below((field.parents.len() - first) as u32) as usize;
     let region = Region::new(&field.parents, top);
     let edited = draw_edit(draws, &field, &region);
     let mut changed = field.clone();
