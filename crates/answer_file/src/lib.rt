@@ -1,5 +1,7 @@
 // The operations Write an answer and Read an answer. Public: `write_answer`, `read_answer`; the checks, and the writing and reading of the
 // blocks, are in modules of their own, for this crate alone. Relies on `files_spec`, `block_tables`, `blocks`, `qlt_spec` and `numbers`.
+#![tactic(auto)]
+
 ghost use Rattle.files_spec.specs.WriteAnswer.{write_call, WriteContract};
 ghost use Rattle.files_spec.specs.ReadAnswer.{AnswerReadContract};
 

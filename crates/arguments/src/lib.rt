@@ -1,5 +1,7 @@
 // A tool's numbers are its arguments, in decimal digits (02, ticket 6): the number that an argument's bytes stand for. Every tool reads its
 // arguments by this crate. Public: `number_of`. Relies on `text` and `numbers`.
+#![tactic(auto)]
+
 ghost use Rattle.std.specs.Prelude.{◌≡◌};
 ghost use Rattle.arguments.specs.Argument.{argument};
 

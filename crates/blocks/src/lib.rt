@@ -1,5 +1,7 @@
 // Blocks of 512 bytes: words, check words, numbers and payloads. Public: `payload`; what the crates of files need besides is in `words`,
 // `block` and `files`, and in the crate `block_tables` above. Relies on `numbers`.
+#![tactic(auto)]
+
 ghost use Rattle.blocks.specs.Blocks.{PayloadContract};
 
 pub mod block;

@@ -1,6 +1,8 @@
 // The source book (02, ticket 12): starting one, reading one, and what a step does with its own. Public: `start_book`, `read_book`; for the
 // crates above `lent`, the book that a step is lent. The checks of a block and of a whole book, what a book holds, and the writing of a block
 // are in modules of their own, for this crate alone. Relies on `book_spec`, `blocks` and `numbers`.
+#![tactic(auto)]
+
 ghost use Rattle.book_spec.specs.ReadBook.{BookReadContract};
 ghost use Rattle.book_spec.specs.StartBook.{BookStartContract};
 

@@ -1,5 +1,7 @@
 // The calls from C on books; `legzhuro_c` exports them. Public: `start`, `report`. The values that they put are in a module of its own, for this
 // crate alone. Relies on `book`, `call_values`, `book_spec`, `blocks` and `numbers`.
+#![tactic(auto)]
+
 ghost use Rattle.book_calls.specs.BookCalls.{BookStartReturns, BookReportReturns};
 
 use book::{read_book, start_book};

@@ -1,5 +1,7 @@
 // The operation Report of a book: the line that the program prints for a source book (02, ticket 12). Public: `report_book`; the work below
 // it is in a module of its own, for this crate alone. Relies on `book`, `book_spec`, `text`, `blocks` and `numbers`.
+#![tactic(auto)]
+
 ghost use Rattle.book_report.specs.Report.{BookReportContract};
 
 use text::Reported;

@@ -1,5 +1,6 @@
 // The source book (02): its bytes, what reading, starting and extending one check, answer and leave, and the laws. Definitions (specs/) and
 // laws (proofs/) alone; the code is in the crate `book`. Relies on `blocks` and `numbers`.
+#![tactic(auto)]
 
 // The answer of a start: the book's length in bytes, or the refusal.
 #[derive(Drop)]

@@ -10,6 +10,8 @@
 // is ruled out.
 // Relies on `kept`, `book` and `book_report`, which it tests, `kept_spec`, `book_spec`, `qlt_spec` and `text` for the answers, `blocks` to
 // damage a book, `test_support`, `numbers`, and the kit's `io` and `libc`.
+#![tactic(auto)]
+
 ghost use Rattle.std.specs.Prelude.{◌≤◌, length};
 
 use book::start_book;

@@ -1,5 +1,7 @@
 // The operation Bounds: a field's bounds from air masses and mixing ratios. Public: `bounds`; the checks and the work below it are in modules
 // of their own, for this crate alone. Relies on `cell_bounds`, `bounds_spec` and `numbers`.
+#![tactic(auto)]
+
 ghost use Rattle.bounds_spec.specs.Bounds.{mixing, bounds as boundsLists, bounds_call, BoundsContract};
 
 use bounds_spec::Bounded;

@@ -1,6 +1,7 @@
 // Bounds from mixing ratios (ticket 8 of 02): the bounds of one cell and of a field, what the conversion checks, answers and writes, and the
 // consistency of document 003. Definitions (specs/) and laws (proofs/) alone; the code is in the crates `cell_bounds` and `bounds`.
 // Relies on `kept_spec`, `qlt_spec`, `caas_spec` and `numbers`.
+#![tactic(auto)]
 
 // The mass of a cell's air, the mass of its tracer, and a mixing ratio in parts of 1048576 (02): three types, so that none stands in another's
 // place.

@@ -11,6 +11,8 @@
 // 65,536 bytes are read.
 // Relies on `bounds`, which it tests, and `kept`, `bounds_spec`, `kept_spec` and `qlt_spec` for the answers, `test_support`, `numbers`, and the
 // kit's `io` and `libc`.
+#![tactic(auto)]
+
 ghost use Rattle.std.specs.Prelude.{◌+◌, ◌*◌, ◌≤◌, length};
 
 use bounds_spec::Bounded;

@@ -1,6 +1,8 @@
 // The operations Import and Export, and Export in binary32. Public: `import`, `export`, `export_single`. Below them, for this crate alone: powers
 // of two as doubles (`power`), a mass as a binary32 (`singles`). What a double gives in a field is in the crate `double_fields`. Relies on this,
 // `rounded_division`, `doubles_spec` and `numbers`.
+#![tactic(auto)]
+
 ghost use Rattle.std.specs.Prelude.{◌≡◌};
 ghost use Rattle.doubles_spec.specs.declared.Imported.TheVariants.{Refused};
 ghost use Rattle.doubles_spec.specs.Import.{ImportContract};

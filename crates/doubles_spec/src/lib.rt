@@ -1,6 +1,7 @@
 // Import and Export, and Export in binary32: doubles to units and units to doubles by IEEE 754. What the operations check and answer, the five
 // classes of a double, the nearest value of a format, the forms that the code follows, and the laws. Definitions (specs/) and laws (proofs/)
 // alone; the code is in the crates `rounded_division`, `double_fields` and `doubles`. Relies on `numbers`, where the roundings stand.
+#![tactic(auto)]
 
 // The five doubles of a cell.
 #[derive(Drop)]

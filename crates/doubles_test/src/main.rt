@@ -8,6 +8,8 @@
 // A line has `units` and the five units, `double` or `single` and its bit pattern, or `refused` with number and place. Where the refusal
 // carries a double, its bit pattern follows, or `nan`. The cases end with the input, of which at most 65,536 bytes are read.
 // Relies on `doubles`, which it tests, `doubles_spec` for the answers, `test_support`, and the kit's `io` and `libc`.
+#![tactic(auto)]
+
 ghost use Rattle.std.specs.Prelude.{◌≤◌, length};
 
 use doubles_spec::{CellDoubles, Exported};

@@ -1,6 +1,8 @@
 // The operations of a family of kept fields under one cap (02). Public: `start_family`, `open_member`, `step_member`; for the crates above
 // `verdict` (the checks) and `members`. What holds of every history of these calls is proved in `family_spec`. Relies on `kept`, `family_spec`,
 // `kept_spec`, `qlt_spec` and `numbers`.
+#![tactic(auto)]
+
 ghost use Rattle.qlt_spec.specs.Field.{lists};
 ghost use Rattle.family_spec.specs.Member.{step_inputs};
 ghost use Rattle.family_spec.specs.Operations.{StartContract, OpenMemberContract, StepMemberContract};

@@ -1,6 +1,8 @@
 // The calls from C on a family, which stands in a lent list of numbers; `legzhuro_c` exports them, the calls for turns are in `turn_calls`. Public:
 // `start`, `open`, `step`; for the crates above `list` and `verdict`. Relies on `family`, `call_values`, `family_spec`, `kept_spec`, `qlt_spec` and
 // `numbers`.
+#![tactic(auto)]
+
 ghost use Rattle.qlt_spec.specs.Field.{lists};
 ghost use Rattle.family_spec.specs.Member.{step_inputs};
 ghost use Rattle.family_calls.specs.Calls.{FamilyStartReturns, FamilyOpenReturns, FamilyStepReturns};

@@ -1,6 +1,7 @@
 // Families of kept fields under one cap, with turns (02): what Start, Open, Step and Register of a member and Turn check, answer and give back,
 // histories of these calls, and the theorems about every history. Definitions (specs/) and laws (proofs/) alone; the code is in the crate `family`. Relies on `kept_spec`,
 // `qlt_spec` and `numbers`.
+#![tactic(auto)]
 
 // What a family holds of a member: whether it is open, and its total, 0 for one that is not.
 #[derive(Drop)]

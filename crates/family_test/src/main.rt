@@ -9,6 +9,8 @@
 // language, and not by this program. Each member has a book of its own, started from the total that it opens with and lent along with its steps;
 // nothing of it is printed. Numbers stay far below the remainders by which overflow is ruled out. Relies on `turns` and `family`, which it
 // tests, `book`, `family_spec`, `kept_spec`, `book_spec` and `qlt_spec` for the answers, `test_support`, `io` and `libc`, and `numbers` in proofs.
+#![tactic(auto)]
+
 use calls::one_call;
 use family::start_family;
 use family_spec::{Family, Started};

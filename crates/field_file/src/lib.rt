@@ -1,6 +1,8 @@
 // The operations Read a field file and Write a field file. Public: `read_field`, `write_field`; the checks of both are in the module `verdict`,
 // for this crate alone, the reading of the lists is in the crate `field_reader` and the writing of the blocks in `field_writer`. Relies on
 // these two, `files_spec`, `block_tables`, `blocks`, `field_checks`, `qlt_spec` and `numbers`.
+#![tactic(auto)]
+
 ghost use Rattle.qlt_spec.specs.Field.{lists};
 ghost use Rattle.files_spec.specs.ReadField.{ReadContract};
 ghost use Rattle.files_spec.specs.WriteField.{field_write_call, FieldWriteContract};

@@ -1,6 +1,8 @@
 // Field files and answer files: their bytes, what reading and writing them checks, answers and leaves, and the laws. Definitions (specs/),
 // laws (proofs/), and the types and layouts that the code shares; that is in the crates `field_file`, with `field_reader` and `field_writer`
 // below it, and `answer_file`. Relies on `block_tables`, `blocks`, `qlt_spec` and `numbers`.
+#![tactic(auto)]
+
 use block_tables::tables::Table;
 use qlt_spec::Repair;
 

@@ -22,6 +22,8 @@
 // check number. The cases end with the input, of which at most 65,536 bytes are read.
 // Relies on `field_file`, `answer_file` and `blocks`, which it tests, `files_spec` for the answers, `qlt_spec`, `test_support`, `numbers`,
 // and the kit's `io`, `os` and `libc`.
+#![tactic(auto)]
+
 ghost use Rattle.std.specs.Prelude.{◌≤◌, ◌<◌, length};
 
 use input::{FieldCase, Lengths, WriteCase};

@@ -1,6 +1,8 @@
 // The operations Open and Step on a kept field. Public: `open`, `step`; for the crates above `extended` (Step with a check put in). The checks are
 // in `kept_checks`. What holds of every run of these calls is proved in `kept_spec` (demand 3). Relies on `kept_checks`, `reconstruct`, `book`, `kept_spec`, `book_spec`,
 // `qlt_spec` and `numbers`.
+#![tactic(auto)]
+
 ghost use Rattle.kept_spec.specs.Open.{OpenContract};
 ghost use Rattle.kept_spec.specs.Step.{step_call, StepContract};
 ghost use Rattle.qlt_spec.specs.Field.{lists};

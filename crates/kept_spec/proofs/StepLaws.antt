@@ -17,7 +17,7 @@ use Rattle.numbers.specs.Checks.{Answered, accepted, refused, first, both, check
 use Rattle.numbers.proofs.TestLaws.{eq-means, le-means, and-means, injective}
 use Rattle.numbers.proofs.SignedLaws.{le_parts, parts-le, from-zero-whole}
 use Rattle.numbers.proofs.CheckLaws.{first-append, decides-unless, decides-then, decides-none, decides-append, holds-append, broken-append, total-decides, both-pass, both_first, both-second, on, no-pass, long-decides, stop}
-use Rattle.numbers.proofs.ChainLaws.{extends-own, extends-pass, extends-fail, is_one, not-broken, are-of, is_one, one-append, numbers-append, no_number, broken-later, fails-number, Passes, pass_all, all_pass, Verdict, verdict, passed, failed, refuse-append, refuse-with}
+use Rattle.numbers.proofs.ChainLaws.{extends-own, extends-pass, extends-fail, is_one, not-broken, are-of, OneOf-is_one, one-append, numbers-append, no_number, broken-later, fails-number, Passes, pass_all, all_pass, Verdict, verdict, passed, failed, refuse-append, refuse-with}
 use Rattle.qlt_spec.specs.Field.{scratch_per_node, field, outcome_number, outcome, Outcome, attainable, below, above, nodes}
 use Rattle.qlt_spec.specs.Masses.{tree_masses}
 use Rattle.qlt_spec.specs.Facts.{FieldFacts}
@@ -347,7 +347,7 @@ module _ (c : StepCall) where
   Own n = OneOf (17 ∷ 12 ∷ 13 ∷ 3 ∷ 14 ∷ 15 ∷ 16 ∷ 21 ∷ []) n
 
   own-number : (k : ℕ) → is_one (17 ∷ 12 ∷ 13 ∷ 3 ∷ 14 ∷ 15 ∷ 16 ∷ 21 ∷ []) k ≡ true → (n : ℕ) → n ≡ k → Own n
-  own-number k e n h = subst Own (sym h) (is_one _ k e)
+  own-number k e n h = subst Own (sym h) (OneOf-is_one _ k e)
 
   pub step-extends : Extends Own (before_book [] ++ (first of_book ∷ [])) (reconstruct_checks (repair_call c))
   step-extends =

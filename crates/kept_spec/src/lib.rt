@@ -1,6 +1,7 @@
 // The kept field: what Open and Step check, answer and write, runs of Step calls, and the theorems about every run, with the book that a step adds
 // its record to, and about two runs of which one is edited below a node (02). Definitions (specs/) and laws (proofs/) alone; the code is in the crate
 // `kept`. Relies on `book_spec`, `blocks`, `qlt_spec`, `caas_spec` and `numbers`.
+#![tactic(auto)]
 
 // What stands beside the kept masses, 02's record: 01's total standing, and the scale that it was opened at.
 #[derive(Drop)]

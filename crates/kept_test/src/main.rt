@@ -6,6 +6,8 @@
 // again from the total standing when it has 64 blocks; nothing of it is printed. Masses stay far below 1000000000, and what is shared out far below
 // 1000000000000, so that the remainders by these, which rule out overflow, change none.
 // Relies on `kept`, which it tests, `kept_spec` and `qlt_spec` for the answers, `test_support`, and `numbers` in proofs.
+#![tactic(auto)]
+
 ghost use Rattle.std.specs.Prelude.{◌<◌, ◌≤◌};
 
 use kept_spec::{Balance, Opened, Stepped};

@@ -1,5 +1,7 @@
 // The program: a field file on standard input, its listing or the line of its refusal on standard output. At most 18433 bytes are read, one
 // more than the largest file has, so that a longer one is refused. Relies on `report`, `text` and the kit's `io` and `libc`.
+#![tactic(auto)]
+
 use libc::{STDIN_FILENO, STDOUT_FILENO};
 use text::Reported;
 

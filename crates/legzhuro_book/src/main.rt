@@ -1,5 +1,7 @@
 // The tool that reports a source book: the book on standard input, one line on standard output. At most 32769 bytes are read, one more than
 // a full book has, so that a longer file is refused. Relies on `book_report`, `text` and the kit's `io` and `libc`.
+#![tactic(auto)]
+
 use libc::{STDIN_FILENO, STDOUT_FILENO};
 use text::Reported;
 

@@ -1,6 +1,8 @@
 // The calls from C, a static library. `include/legzhuro.h` documents them. Public: the nineteen functions here; what they share is in `returns`
 // and in `call_values`, the work of the file call in `whole`, that of the calls on a family in `family_calls` and `turn_calls`, that of the calls on
 // a book in `book_calls`. Relies on every operation and on `repair_file` and `numbers`.
+#![tactic(auto)]
+
 ghost use Rattle.caas_spec.specs.Operation.{split_call};
 ghost use Rattle.qlt_spec.specs.Field.{lists};
 ghost use Rattle.kept_spec.specs.Step.{step_call};

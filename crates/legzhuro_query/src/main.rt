@@ -2,6 +2,8 @@
 // and one line goes to standard output. At most 18433 bytes are read, one more than the largest file has, so that a longer one is refused.
 // The first list has room for the longest argument that Linux hands to a program, 131071 bytes where a page has 4096; of one that is
 // missing, or longer, no byte is told. Relies on `query`, `arguments`, `text` and the kit's `io`, `os` and `libc`.
+#![tactic(auto)]
+
 use libc::{STDIN_FILENO, STDOUT_FILENO};
 use text::Reported;
 

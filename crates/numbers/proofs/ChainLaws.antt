@@ -96,10 +96,10 @@ abbrev pub are_of : List ℕ → List ℕ → Bool
 are_of ns [] = true
 are_of ns (m ∷ ms) = is_one ns m && are_of ns ms
 
-pub is_one : (ks : List ℕ) (n : ℕ) → is_one ks n ≡ true → OneOf ks n
+pub OneOf-is_one : (ks : List ℕ) (n : ℕ) → is_one ks n ≡ true → OneOf ks n
 unfolding OneOf
-is_one [] n e = absurd (clash e refl)
-is_one (k ∷ ks) n e = go (eqb n k) refl e (is_one ks n)
+OneOf-is_one [] n e = absurd (clash e refl)
+OneOf-is_one (k ∷ ks) n e = go (eqb n k) refl e (OneOf-is_one ks n)
   where
     go : (b : Bool) → eqb n k ≡ b → b || is_one ks n ≡ true → (is_one ks n ≡ true → OneOf ks n) → (n ≡ k) ⊎ OneOf ks n
     go true t f later = inl (eqb-true n k t)
@@ -131,7 +131,7 @@ pub are-of : (ns ms : List ℕ) → are_of ns ms ≡ true → (n : ℕ) → OneO
 unfolding OneOf
 are-of ns [] e n h = absurd h
 are-of ns (m ∷ ms) e n h =
-    ⊎_elim (λ q. rw q (is_one ns m (and_first (is_one ns m) (are_of ns ms) e))) (λ g. are-of ns ms (and_second (is_one ns m) (are_of ns ms) e) n g) h
+    ⊎_elim (λ q. rw q (OneOf-is_one ns m (and_first (is_one ns m) (are_of ns ms) e))) (λ g. are-of ns ms (and_second (is_one ns m) (are_of ns ms) e) n g) h
 
 -- the numbers of rules are exactly these: `refuse-with rs ns refl refl`
 pub refuse-with : (rs : List Rule) (ns : List ℕ) → are_of ns (numbers_of rs) ≡ true → are_of (numbers_of rs) ns ≡ true → RefuseWith rs ns

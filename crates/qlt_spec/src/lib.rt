@@ -1,6 +1,7 @@
 // QLT over whole masses: the tree, the field, the bounds in force, the whole tree and what holds of it, what the operation Reconstruct
 // checks, answers and writes, and that edits below a node stay there (02). Definitions (specs/) and laws (proofs/) alone; the code is in the
 // crates `field_checks`, `solve` and `reconstruct`. Relies on `caas_spec` and `numbers`.
+#![tactic(auto)]
 
 // The numbers of scratch for each node; `scratch_per_node` in specs/Field.antt.
 pub const SCRATCH_PER_NODE: usize = 4;

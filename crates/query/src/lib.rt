@@ -1,6 +1,8 @@
 // The operation Query: the line that the tool prints for a cell of a field file (02, ticket 6). Public: `query`; the work below it is in a
 // module of its own, for this crate alone, and in `cell_parts` and `query_lines`. Relies on these two, `query_spec`, `repair_file`,
 // `field_file`, `files_spec`, `reconstruct`, `field_checks`, `text`, `qlt_spec` and `numbers`.
+#![tactic(auto)]
+
 ghost use Rattle.query_spec.specs.Query.{QueryContract};
 
 use text::Reported;

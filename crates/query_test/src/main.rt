@@ -9,6 +9,8 @@
 //   ends before. `argument` and the number are printed.
 // Any other kind is a case by itself. The cases end with the input, of which at most 65,536 bytes are read.
 // Relies on `query` and `arguments`, which it tests, `text`, `test_support`, `numbers`, and the kit's `io` and `libc`.
+#![tactic(auto)]
+
 ghost use Rattle.std.specs.Prelude.{◌≤◌, length};
 
 use libc::STDOUT_FILENO;

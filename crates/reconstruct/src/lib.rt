@@ -1,5 +1,7 @@
 // The operation Reconstruct: the masses of a whole field for a total. Public: `reconstruct`; for Step `repair`, what an accepted call does;
 // for Query `verdict`, its checks. Relies on `solve`, `field_checks`, `solve_spec`, `qlt_spec` and `numbers`.
+#![tactic(auto)]
+
 ghost use Rattle.qlt_spec.specs.Field.{lists};
 ghost use Rattle.qlt_spec.specs.Operation.{reconstruct_call, ReconstructContract};
 

@@ -10,6 +10,8 @@
 // left them, up to 16 of them, or of more their sum and a check number; then `scratch`, how many of its first 4 × m numbers are 0, how
 // many of the later ones are still 5, and how many of the first. The cases end with the input, of which at most 65,536 bytes are read.
 // Relies on `reconstruct`, which it tests, `qlt_spec` for the answer, `test_support`, `numbers`, and the kit's `io` and `libc`.
+#![tactic(auto)]
+
 ghost use Rattle.std.specs.Prelude.{◌≤◌, length};
 ghost use Rattle.reconstruct_test.specs.Cases.{InOrder};
 

@@ -12,6 +12,8 @@
 // this program. Numbers stay far below the remainders by which overflow is ruled out.
 // Relies on `kept` and `reconstruct`, which it tests, `kept_spec` and `qlt_spec` for the answers, `test_support`, `numbers` in proofs, and the
 // kit's `io` and `libc`.
+#![tactic(auto)]
+
 use output::show_counts;
 use repairs::show_repairs;
 use round::draw_round;

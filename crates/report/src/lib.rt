@@ -1,5 +1,7 @@
 // The operation Report: the text that the program prints for a file. Public: `report`; the work below it is in a module of its own, for
 // this crate alone. Relies on `repair_file`, `listing`, `text`, `files_spec`, `qlt_spec` and `numbers`.
+#![tactic(auto)]
+
 ghost use Rattle.report.specs.Report.{ReportContract};
 
 use text::Reported;

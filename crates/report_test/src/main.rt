@@ -5,6 +5,8 @@
 // more than the largest has. The report is written to a buffer of 16,384 bytes: the listing, or the line of the file's refusal. The last
 // line is a refusal of the operation itself: file 0 once more, with a buffer that is a byte too short.
 // Relies on `report`, which it tests, `text`, `test_support`, and the kit's `io` and `libc`.
+#![tactic(auto)]
+
 use libc::STDOUT_FILENO;
 use test_support::files::open_field;
 use test_support::output::show_refusal;

@@ -1,5 +1,7 @@
 // The operation Split: ClipAndAssuredSum on one group of items. Public: `split`; the checks and the work below it are in modules of their
 // own, for this crate alone. Relies on `walks`, `scratch_spec`, `caas_spec` and `numbers`.
+#![tactic(auto)]
+
 ghost use Rattle.caas_spec.specs.Operation.{split_call, SplitContract};
 
 use caas_spec::SplitAnswer;

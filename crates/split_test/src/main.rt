@@ -5,6 +5,8 @@
 // Before the call each mass is 7. A line has `done` with d, or `refused` with number and place, and then the masses as the call left them:
 // up to 16 of them, or of more their sum and a check number. The cases end with the input, of which at most 65,536 bytes are read.
 // Relies on `split`, which it tests, `caas_spec` for the answer, `test_support`, `numbers`, and the kit's `io` and `libc`.
+#![tactic(auto)]
+
 ghost use Rattle.std.specs.Prelude.{◌+◌, ◌≤◌, length};
 
 use caas_spec::SplitAnswer;

@@ -2,6 +2,8 @@
 // generator (module `draws`), fields drawn around kept masses (module `fields`), books started (module `books`), the parts of the lines that they
 // print (module `output`), and files of data/ (module `files`). It serves the test programs alone; no operation uses it.
 // Relies on `book`, `book_spec`, `numbers`, and the kit's `io`, `os` and `libc`.
+#![tactic(auto)]
+
 pub mod books;
 pub mod draws;
 pub mod fields;

@@ -1,6 +1,8 @@
 // The calls from C for turns of a family, which stands in a lent list of numbers; `legzhuro_c` exports them. Public: `register`, `next`, `waiting`,
 // `turn`. What holds of every history of the calls on a family, those of `family_calls` too, is proved here, from `family_spec`. Relies on `turns`,
 // `family_calls`, `call_values`, `family_spec`, `kept_spec`, `qlt_spec` and `numbers`.
+#![tactic(auto)]
+
 ghost use Rattle.qlt_spec.specs.Field.{lists};
 ghost use Rattle.family_spec.specs.Member.{step_inputs};
 ghost use Rattle.turn_calls.specs.TurnCalls.{FamilyRegisterReturns, FamilyNextReturns, FamilyWaitingReturns, FamilyTurnReturns};

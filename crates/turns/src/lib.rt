@@ -1,6 +1,8 @@
 // Turns for the members of a family (02): who waits, who is next, and a turn, which steps the next one. Public: `register`, `next_member`,
 // `waiting_count`, `turn`. What holds of every history of these calls is proved in `family_spec`. Relies on `family`, `family_spec`, `kept_spec`,
 // `qlt_spec` and `numbers`.
+#![tactic(auto)]
+
 ghost use Rattle.std.specs.Prelude.{◌≡◌};
 ghost use Rattle.qlt_spec.specs.Field.{lists};
 ghost use Rattle.family_spec.specs.Member.{step_inputs};

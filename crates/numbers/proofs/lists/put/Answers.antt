@@ -6,26 +6,10 @@ use mir.Syntax.{w64}
 use mir.Val.{to_z, of_z}
 use mir.ValLaws.{to_z_pos}
 use borrow.Author.Rules.{rules}
-use Rattle.numbers.proofs.lists.put.Statement.{statement}
-use Rattle.numbers.proofs.lists.put.Tie as tie
+use Rattle.numbers.proofs.lists.put.Goals as goal
 
-signed-requires : tie.Need-signed-requires
-signed-requires c κs = search rules
-
-mul-t5 : tie.Need-overflow-mul-t5
-mul-t5 c = search rules
-
-slice-set-from-xs : tie.Need-slice-set-from-xs
-slice-set-from-xs c = search rules
-
-same_length : tie.Need-same-length
-same_length c = search rules
-
-returns : tie.Need-returns
+pub returns : goal.returns
 returns c =
     let s = c.before in
     let e : to_z w64 (of_z w64 c.signed.result) ≡ pos s.args.v = ap (λ (z : ℤ). to_z w64 (of_z w64 z)) c.signed.ensures ∙ to_z_pos w64 s.args.v s.requires.1 in
     ap (λ (z : ℤ). set s.args.xs.now s.args.i z) e
-
-pub put_spec : {M : Type 1} → statement M
-put_spec = tie.close (tie.spec signed-requires mul-t5 slice-set-from-xs same_length returns)

@@ -8,11 +8,10 @@ use mir.Val.{SFits, to_z, of_z}
 use mir.ValLaws.{to_z-of_z, to_z_pos}
 use Rattle.numbers.proofs.SignedLaws.{signed, about, one-part, minus-parts, widened}
 use borrow.Author.Rules.{rules}
-use Rattle.numbers.proofs.arith.minus.Statement.{statement}
-use Rattle.numbers.proofs.arith.minus.Tie as tie
+use Rattle.numbers.proofs.arith.minus.Goals as goal
 
 -- what is computed, as a difference of the arguments; it fits
-module _ (c : tie.Start) where
+module _ (c : goal.Start) where
   abbrev m : ℕ
   m = c.args.mass
 
@@ -25,17 +24,11 @@ module _ (c : tie.Start) where
   fits : SFits w64 (pos m -ℤ t)
   fits = omega (signed, minus-parts (pos m) t, about (pos m -ℤ t), one-part (pos m -ℤ t), about t, c.ranges.mass.fits, c.ranges.target.sfits)
 
-cast-m : tie.Need-overflow-cast-m
-cast-m c = search rules
+pub overflow_cast-t : goal.overflow_cast-t
+overflow_cast-t c = rw (to_z-of_z w32 c.args.target c.ranges.target) (record { sfits = omega (arith, c.ranges.target.sfits) })
 
-cast_t : tie.Need-overflow-cast-t
-cast_t c = rw (to_z-of_z w32 c.args.target c.ranges.target) (record { sfits = omega (arith, c.ranges.target.sfits) })
+pub overflow_sub-result : goal.overflow_sub-result
+overflow_sub-result c = rw (same c) (fits c)
 
-sub-result : tie.Need-overflow-sub-result
-sub-result c = rw (same c) (fits c)
-
-returns : tie.Need-returns
+pub returns : goal.returns
 returns c = rw (same c) (to_z-of_z w64 (pos c.args.mass -ℤ c.args.target) (fits c))
-
-pub minus-spec : {M : Type 1} → statement M
-minus-spec = tie.close (tie.spec cast-m cast_t sub-result returns)
