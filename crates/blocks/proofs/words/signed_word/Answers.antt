@@ -4,15 +4,21 @@ use mir.ValLaws.{to_z-of_z}
 use Rattle.numbers.specs.Signed.{over, under}
 use Rattle.numbers.proofs.SignedLaws.{signed, about, one-part, minus-parts, over-whole}
 use Rattle.blocks.specs.Words.{signed_word}
-use Rattle.blocks.proofs.words.signed_word.Statement.{statement}
+use Rattle.blocks.proofs.words.signed_word.Goals as goal
+use Rattle.blocks.proofs.words.signed_word.Lts as lts
 use Rattle.blocks.proofs.words.signed_word.Tie as tie
+use Rattle.blocks.proofs.words.signed_word.Reads as reads
+
+-- places in the code at which no goal stands
+abbrev Start : Type 0
+Start = lts.Start reads.Pre reads.Post
 
 below : (z : ℤ) → 0 < under z → z ≡ negsuc (under z - 1)
 below (pos n) h = absurd (omega arith)
 below (negsuc n) h = ap negsuc (omega arith)
 
 -- what is read is the number
-module _ (c : tie.Start) where
+module _ (c : Start) where
   abbrev z : ℤ
   z = c.args.z
 
@@ -26,19 +32,19 @@ module _ (c : tie.Start) where
   read-over = ap over read
 
 -- below 0
-module _ (c : tie.Then1) where
+module _ (c : goal.Then-z-lt0) where
   abbrev n : ℕ
   n = under (z c.before) - 1
 
   is : z c.before ≡ negsuc n
-  is = below (z c.before) (omega (signed, c.if1.true, read_under c.before, read-over c.before))
+  is = below (z c.before) (omega (signed, c.if-z-lt0.true, read_under c.before, read-over c.before))
 
   -- the number that the inner subtraction gives
   away : negsuc 0 -ℤ to_z w32 (of_z w32 (z c.before)) ≡ pos n
   away = ap (λ y. negsuc 0 -ℤ y) (read c.before ∙ is) ∙ omega (signed, minus-parts (negsuc 0) (negsuc n), one-part (negsuc 0 -ℤ negsuc n))
 
   small : n < 2 ^ 31
-  small = omega (signed, about (z c.before), c.before.ranges.z.sfits)
+  small = omega (signed, about (z c.before), c.ranges.z.sfits)
 
   fits : SFits w32 (pos n)
   fits = record { sfits = small }
@@ -47,29 +53,25 @@ module _ (c : tie.Then1) where
   back = ap (λ y. to_z w32 (of_z w32 y)) away ∙ to_z-of_z w32 (pos n) fits
 
 -- not below 0
-whole : (c : tie.Else1) → z c.before ≡ pos (over (z c.before))
-whole c = over-whole (z c.before) (omega (signed, c.if1.false, read_under c.before, read-over c.before, one-part (z c.before)))
+whole : (c : goal.Else-z-lt0) → z c.before ≡ pos (over (z c.before))
+whole c = over-whole (z c.before) (omega (signed, c.if-z-lt0.false, read_under c.before, read-over c.before, one-part (z c.before)))
 
-sub-result : tie.Need-overflow-sub-result
-sub-result c = subst (SFits w32) (sym (away c)) (fits c)
+pub overflow_sub-result : goal.overflow_sub-result
+overflow_sub-result c = subst (SFits w32) (sym (away c)) (fits c)
 
-cast-result : tie.Need-overflow-cast-result
-cast-result c = rw (back c) (tt, omega (arith, small c))
+pub overflow_cast-result : goal.overflow_cast-result
+overflow_cast-result c = rw (back c) (tt, omega (arith, small c))
 
-sub-result-2 : tie.Need-overflow-sub-result-2
-sub-result-2 c = rw (back c) (omega (arith, small c))
+pub overflow_sub-result-then-z-lt0 : goal.overflow_sub-result-then-z-lt0
+overflow_sub-result-then-z-lt0 c = rw (back c) (omega (arith, small c))
 
-cast-result-2 : tie.Need-overflow-cast-result-2
-cast-result-2 c = rw (read c.before, whole c) (tt, omega (signed, about (z c.before), c.before.ranges.z.sfits))
+pub overflow_cast-result-else-z-lt0 : goal.overflow_cast-result-else-z-lt0
+overflow_cast-result-else-z-lt0 c = rw (read c.before, whole c) (tt, omega (signed, about (z c.before), c.ranges.z.sfits))
 
-returns : tie.Need-returns
+pub returns-then-z-lt0 : goal.returns-then-z-lt0
 unfolding signed_word
-returns c = rw (back c) (ap signed_word (sym (is c)))
+returns-then-z-lt0 c = rw (back c) (ap signed_word (sym (is c)))
 
-returns-2 : tie.Need-returns-2
+pub returns-else-z-lt0 : goal.returns-else-z-lt0
 unfolding signed_word
-returns-2 c = ap nat_abs (read c.before ∙ whole c) ∙ ap signed_word (sym (whole c))
-
-pub signed-word-spec : {M : Type 1} → statement M
-signed-word-spec =
-    tie.close (tie.spec sub-result cast-result sub-result-2 cast-result-2 returns returns-2)
+returns-else-z-lt0 c = ap nat_abs (read c.before ∙ whole c) ∙ ap signed_word (sym (whole c))
