@@ -13,8 +13,9 @@ pub fn put_bytes(out: &mut [u8], at: usize, word: &[u8]) -> usize
     requires { at + length word.now ≤ length out.old }
     ensures { Put out.old out.new at result word.now }
 {
-    let n = bytes::copy(word, &mut out[at..]);
-    at + n
+    let end = at + word.len();
+    out[at..end].copy_from_slice(word);
+    end
 }
 
 // Puts x in decimal; k is the most digits that x may have.

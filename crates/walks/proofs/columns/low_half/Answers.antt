@@ -5,11 +5,7 @@ use lib.Bits.{and_mask}
 use mir.Syntax.{w64}
 use mir.Val.{to_z, of_z}
 use mir.ValLaws.{to_z_pos}
-use Rattle.walks.proofs.columns.low_half.Statement.{statement}
-use Rattle.walks.proofs.columns.low_half.Tie as tie
+use Rattle.walks.proofs.columns.low_half.Goals as goal
 
-returns : tie.Need-returns
+pub returns : goal.returns
 returns c = ap (to_z w64) (and_mask (of_z w64 c.args.z) 32) ∙ to_z_pos w64 _ (omega arith)
-
-pub low-half-spec : {M : Type 1} → statement M
-low-half-spec = tie.close (tie.spec returns)
