@@ -15,7 +15,7 @@ use Rattle.walks.proofs.columns.get_signed.Goals as goal
 pub returns-then-k-eq0 : goal.returns-then-k-eq0
 returns-then-k-eq0 c =
     let a = c.args in
-    read_back (at_ℤ a.s.now (width * a.u)) c.result.given ∙ sym (ap (λ k. col k a.s.now a.u) c.if-k-eq0.true ∙ col-mass a.s.now a.u)
+    read_back (at_ℤ a.s.now (width * a.u)) c.result-1.given ∙ sym (ap (λ k. col k a.s.now a.u) c.if-k-eq0.true ∙ col-mass a.s.now a.u)
 
 pub returns : goal.returns
 returns c =

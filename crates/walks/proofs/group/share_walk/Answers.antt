@@ -78,7 +78,7 @@ get_above-requires c = own_row c.requires.rising FIRST (omega arith)
 pub loop-u-init : goal.loop-u-init
 loop-u-init c =
     let a = c.args in
-    subst (λ u. ShareState a.by-room a.down a.m a.v a.d a.s.now u a.s.now 0 0 0 0)
+    subst (λ u. ShareState a.by_room a.down a.m a.v a.d a.s.now u a.s.now 0 0 0 0)
     (sym (c.index-u.ensures ∙ c.get_above.ensures.0))
     (share-start c.requires)
 
