@@ -2,7 +2,7 @@
 -- Assumes nothing.
 use mathlib.Core.Path.{◌≡◌, refl, sym, ap, ap₂, ◌∙◌}
 use mathlib.Core.Bool.{true, false, false≢true}
-use mathlib.Core.List.{List, [], ◌∷◌, ◌++◌, append-nil}
+use mathlib.Core.List.{List, [], ◌∷◌, ◌++◌}
 use Prim.Native.Nat.{ℕ, zero, suc, ◌+◌, ◌*◌, ◌-◌, ◌/◌, ◌%◌, ◌^◌, ◌≤◌, ◌<◌}
 use native.Mathlib.Nat.{pow-suc}
 use native.Mathlib.Numerals.{sub-one}
@@ -10,12 +10,13 @@ use native.Mathlib.Decide.{dec_lt}
 use native.Mathlib.Omega.{arith}
 use borrow.Author.Tests.{lt-ltb, le-ltb, ltb-true}
 use lib.IntN.{ℤ, pos, negsuc, nat_abs}
-use lib.ListN.{length, set, take, drop, length-append, length-drop, drop_of_length-le, get_or-append}
-use lib.Seq.{take-length, take_all, drop-drop, get_or-append_seam}
+use lib.ListN.{length, set, take, drop, length-append, get_or-append}
+use lib.Seq.{drop-drop, get_or-append_seam}
 use lib.Signed.{lt_z}
 use mir.Syntax.{w64}
 use mir.Val.{SFits, to_z, of_z}
 use mir.ValLaws.{to_z-of_z}
+use borrow.Rule.Slice.PartMut.{put_mid}
 use Rattle.numbers.specs.Lists.{at, written}
 use Rattle.numbers.proofs.PartLaws.{written-empty, front-written, sets-written, written_on}
 use Rattle.text.specs.Text.{digits_of, digits, number, signed_number, value_from, Digits, Decimal, Put}
@@ -40,14 +41,12 @@ byte d from v h = record { next = omega arith; bytes = sets-written (v ∷ []) d
 pub front : {d d' text : List ℕ} {n : ℕ} → Put d d' 0 n text → take n d' ≡ text
 front {d} {text = text} {n} p = ap (take n) p.bytes ∙ front-written d text n (omega arith)
 
--- a word copied into the part that begins at `from`
-pub copied : (d word part : List ℕ) (from n : ℕ) → from + length word ≤ length d → n ≡ length word → part ≡ take (length word) word ++ drop (length word) (take (length d - from) (drop from d))
-    → Put d (take from d ++ (part ++ drop (length d - from) (drop from d))) from (from + n) word
+-- a word copied over the part that begins at `from` and has its length
+pub copied : (d word part : List ℕ) (from : ℕ) → from + length word ≤ length d → part ≡ word → Put d (put_mid from (from + length word - from) d part) from (from + length word) word
 unfolding written
-copied d word part from n h m e =
-    let none_left : drop (length d - from) (drop from d) ≡ [] = drop_of_length-le (drop from d) {i = length d - from} (simp length-drop (omega arith)) in
-    let all : take (length d - from) (drop from d) ≡ drop from d = take_all (length d - from) (drop from d) (simp length-drop (omega arith)) in
-    record { next = omega arith; bytes = rw (e, take-length, all, none_left, append-nil, drop-drop) }
+copied d word part from h e =
+    let n : from + (from + length word - from) ≡ from + length word = omega arith in
+    record { next = refl; bytes = rw (e, drop-drop, n) }
 
 -- ---- digits as the code puts them
 

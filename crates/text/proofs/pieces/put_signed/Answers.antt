@@ -10,7 +10,7 @@ pub put_number-requires : goal.put_number-requires
 put_number-requires c = simp length-set (omega arith)
 
 pub shape_of-out-then-z-lt0 : goal.shape_of-out-then-z-lt0
-shape_of-out-then-z-lt0 c = c.put_number.auto.0 ∙ simp length-set
+shape_of-out-then-z-lt0 c = c.put_number.auto.out ∙ simp length-set
 
 pub returns-then-z-lt0 : goal.returns-then-z-lt0
 returns-then-z-lt0 c =

@@ -12,35 +12,19 @@ use Rattle.text.specs.Text.{signed_number, space, newline}
 use Rattle.text.proofs.TextLaws.{then, number-few, signed-few}
 use Rattle.listing.specs.Listing.{cell_line}
 use borrow.Author.Rules.{rules}
-use Rattle.listing.proofs.lines.put_cell.Statement.{statement}
-use Rattle.listing.proofs.lines.put_cell.Tie as tie
+use Rattle.listing.proofs.lines.put_cell.Goals as goal
 
-minus-requires : tie.Need-minus-requires
-minus-requires c κs = search rules
-
-put-number-requires : tie.Need-put-number-requires
-put-number-requires c κs = search rules
-
-put-number-requires-2 : tie.Need-put-number-requires-2
-put-number-requires-2 c κs = search rules
-
-put-signed-requires : tie.Need-put-signed-requires
-put-signed-requires c κs = search rules
-
-same_length : tie.Need-same-length
-same_length c = search rules
-
-returns : tie.Need-returns
+pub returns : goal.returns
 unfolding cell_line
 returns c =
     let s = c.before.before.before.before.before.before.before.before.before.before.before.before.before.before in
     let a = s.args in
-    let m = c.before.before.before.before.before.before.before.before.before.before.before.before.minus in
-    let p = c.before.before.before.before.before.before.before.before.before.before.put-number in
-    let q = c.before.before.before.before.before.before.put-number2 in
-    let r = c.before.before.put-signed in
+    let m = c.minus-correction in
+    let p = c.put_number-a in
+    let q = c.put_number-b in
+    let r = c.put_signed in
     let z = pos a.mass -ℤ a.target in
-    let e : to_z w64 (of_z w64 m.result) ≡ z = to_z-of_z w64 m.result (record { sfits = m.type-inv }) ∙ m.ensures ∙ ap (λ t. pos a.mass -ℤ t) (to_z-of_z w32 a.target s.ranges.target) in
+    let e : to_z w64 (of_z w64 m.result) ≡ z = to_z-of_z w64 m.result (record { sfits = m.type_inv }) ∙ m.ensures ∙ ap (λ t. pos a.mass -ℤ t) (to_z-of_z w32 a.target s.ranges.target) in
     let near : nat_abs z < 10 ^ 10 = omega (signed, minus-parts (pos a.mass) a.target, about z, one-part z, about a.target, s.ranges.mass.fits, s.ranges.target.sfits) in (
       rw (← e) (then (omega (arith, s.requires)) (then (omega (arith, s.requires)) p.ensures.0 q.ensures.0) r.ensures.0),
       omega (
@@ -54,14 +38,3 @@ returns c =
         signed-few 10 z newline (omega arith) near,
       ),
     )
-
-pub put-cell-spec : {M : Type 1} → statement M
-put-cell-spec =
-    tie.close
-    (tie.spec
-    minus-requires
-    put-number-requires
-    put-number-requires-2
-    put-signed-requires
-    same_length
-    returns)
