@@ -79,19 +79,25 @@ place_if-other all i j masses (refused n p) e = refl
 lends-here :
     {all all' : ℕ → List ℕ} {i : ℕ} {given left : List ℕ} (v : Checked) (r : StepResult) (masses : List ℕ)
     → Lends all i given (answered v r) left all' → left ≡ after v masses given → all' i ≡ after v masses (all i)
-lends-here {all} {i = i} {given = given} {left = left} Pass r masses (Lends.own before rest part whole) p =
-    let w = part-whole before given rest (whole tt ∙ part) in
-    place_here all i (before ++ (left ++ rest)) ∙ ap₂ (λ a b. a ++ (left ++ b)) w.0 w.1 ∙ append-nil left ∙ p
-lends-here {all} {i = i} {given = given} {left = left} (Fail n q) r masses (Lends.own before rest part whole) p =
-    place_here all i (before ++ (left ++ rest)) ∙ ap (λ l. before ++ (l ++ rest)) p ∙ sym part
-lends-here Pass r masses (Lends.elsewhere h) p = absurd (h tt)
-lends-here (Fail n q) r masses (Lends.elsewhere h) p = refl
+lends-here {all} {all'} {i} {given} {left} v r masses l p = by-place v left all' l p
+  where
+    by-place : (v : Checked) (left : List ℕ) (all' : ℕ → List ℕ) → Lends all i given (answered v r) left all' → left ≡ after v masses given → all' i ≡ after v masses (all i)
+    by-place Pass left all' (Lends.own before rest part whole) p =
+        let w = part-whole before given rest (whole tt ∙ part) in
+        place_here all i (before ++ (left ++ rest)) ∙ ap₂ (λ a b. a ++ (left ++ b)) w.0 w.1 ∙ append-nil left ∙ p
+    by-place (Fail n q) left all' (Lends.own before rest part whole) p =
+        place_here all i (before ++ (left ++ rest)) ∙ ap (λ l. before ++ (l ++ rest)) p ∙ sym part
+    by-place Pass left all' (Lends.elsewhere h) p = absurd (h tt)
+    by-place (Fail n q) left all' (Lends.elsewhere h) p = refl
 
 lends-other :
     {all all' : ℕ → List ℕ} {i : ℕ} {given left : List ℕ} {told : Answered StepResult} (j : ℕ) → eqb i j ≡ false → Lends all i given told left all'
     → all' j ≡ all j
-lends-other {all} {i = i} {left = left} j e (Lends.own before rest part whole) = place_other all i j (before ++ (left ++ rest)) e
-lends-other j e (Lends.elsewhere h) = refl
+lends-other {all} {all'} {i} {given} {left} {told} j e l = by-place left all' l
+  where
+    by-place : (left : List ℕ) (all' : ℕ → List ℕ) → Lends all i given told left all' → all' j ≡ all j
+    by-place left all' (Lends.own before rest part whole) = place_other all i j (before ++ (left ++ rest)) e
+    by-place left all' (Lends.elsewhere h) = refl
 
 -- the length of a book
 length-by : (v : Checked) (r : StepResult) (l : ℕ) → length_after (answered v r) l ≡ after v r.length l
@@ -99,8 +105,11 @@ length-by Pass r l = refl
 length-by (Fail n p) r l = refl
 
 lends-own : {all all' : ℕ → List ℕ} {i : ℕ} {given left : List ℕ} {told : Answered StepResult} → Lends all i given told left all' → Accepts told → given ≡ all i
-lends-own (Lends.own before rest part whole) a = whole a
-lends-own (Lends.elsewhere h) a = absurd (h a)
+lends-own {all} {all'} {i} {given} {left} {told} l a = by-place left all' l
+  where
+    by-place : (left : List ℕ) (all' : ℕ → List ℕ) → Lends all i given told left all' → given ≡ all i
+    by-place left all' (Lends.own before rest part whole) = whole a
+    by-place left all' (Lends.elsewhere h) = absurd (h a)
 
 -- a registration leaves every member
 pub register-members : {f : Family} {i : ℕ} {r : FamilyRegistered} → RegisterContract f i r → (j : ℕ) → member_at r.family j ≡ member_at f j

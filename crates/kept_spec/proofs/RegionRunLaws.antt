@@ -39,16 +39,22 @@ masses-left {s} {e = e} (Moves.lent before rest p part w) k = lent-whole s e bef
 masses-left {e = e} (Moves.elsewhere p n) k = sym ((keeps e p n).0 ∙ k)
 
 stands_after : {s t : Ledger} {e : Event} → LedgerMoves s (Act.steps e) t → LentAll s e.call → t ≡ stands_by (told e) s e
-stands_after {s} {e = e} (LedgerMoves.steps m k l) z =
-    λ i. record {
-      kept = masses-left m z.kept i;
-      balance = moves-balance m i;
-      book = lent-left k z.book (λ n. (keeps e (moves-promised m) n).1) i;
-      length = length_after (told e) s.length;
-    }
+stands_after {s} {t} {e} m z = by-step e t m z
+  where
+    by-step : (e : Event) (t : Ledger) → LedgerMoves s (Act.steps e) t → LentAll s e.call → t ≡ stands_by (told e) s e
+    by-step e t (LedgerMoves.steps m k l) z =
+        λ i. record {
+          kept = masses-left m z.kept i;
+          balance = moves-balance m i;
+          book = lent-left k z.book (λ n. (keeps e (moves-promised m) n).1) i;
+          length = length_after (told e) s.length;
+        }
 
 step-promised : {s t : Ledger} {e : Event} → LedgerMoves s (Act.steps e) t → Promised e
-step-promised (LedgerMoves.steps m k l) = moves-promised m
+step-promised {s} {t} {e} m = by-step e t m
+  where
+    by-step : (e : Event) (t : Ledger) → LedgerMoves s (Act.steps e) t → Promised e
+    by-step e t (LedgerMoves.steps m k l) = moves-promised m
 
 -- ---- a step in each run
 

@@ -1,0 +1,18 @@
+-- `book::block::outcomes_hold` meets its contract: the records from i on decide.
+use mathlib.Core.Path.{◌≡◌, sym, ◌∙◌, subst}
+use mathlib.Core.Bool.{Bool}
+use Prim.Native.Nat.{ℕ, ◌+◌, ◌*◌, ◌-◌, ◌≤◌, ◌<◌}
+use native.Mathlib.Omega.{arith}
+use borrow.Author.Tests.{le-leb, lt-leb}
+use lib.Dec.{leb}
+use Rattle.numbers.specs.Checks.{every_from}
+use Rattle.numbers.proofs.CheckLaws.{every-on, every_here, every-none}
+use Rattle.blocks.specs.Blocks.{payload_word}
+use Rattle.book.proofs.block.outcomes_hold.Given as goal
+
+abbrev pub invariant-loop-i : goal.invariant-loop-i
+invariant-loop-i l =
+    (l.i ≤ l.used) × (every_from (λ j. leb (payload_word l.file l.number (3 * j + 2)) 2) 0 l.used ≡ every_from (λ j. leb (payload_word l.file l.number (3 * j + 2)) 2) l.i (l.used - l.i))
+
+abbrev pub decreases-loop-i : goal.decreases-loop-i
+decreases-loop-i l = l.used - l.i

@@ -1,0 +1,19 @@
+-- `book::block::totals_follow` meets its contract: the records from i on decide.
+use mathlib.Core.Path.{◌≡◌, sym, ◌∙◌}
+use mathlib.Core.Bool.{Bool}
+use mathlib.Core.List.{List}
+use Prim.Native.Nat.{ℕ, ◌+◌, ◌*◌, ◌-◌, ◌≤◌}
+use native.Mathlib.Omega.{arith}
+use borrow.Author.Tests.{not-true, not-false}
+use Rattle.numbers.specs.Checks.{every_from}
+use Rattle.numbers.proofs.CheckLaws.{every-on, every_here, every-none}
+use Rattle.blocks.specs.Blocks.{payload_word}
+use Rattle.blocks.specs.Words.{word_signed}
+use Rattle.book_spec.specs.ReadBook.{is_next}
+use Rattle.book.proofs.block.totals_follow.Given as goal
+
+abbrev pub invariant-loop-i : goal.invariant-loop-i
+invariant-loop-i l = (l.i ≤ l.used) × (every_from (good l.file l.number) 0 l.used ≡ every_from (good l.file l.number) l.i (l.used - l.i))
+
+abbrev pub decreases-loop-i : goal.decreases-loop-i
+decreases-loop-i l = l.used - l.i

@@ -1,0 +1,17 @@
+-- `book::block::unused_zero` meets its contract: the words from j on decide.
+use mathlib.Core.Path.{◌≡◌, sym, ◌∙◌}
+use mathlib.Core.Bool.{Bool}
+use Prim.Native.Nat.{ℕ, ◌+◌, ◌*◌, ◌-◌, ◌≤◌}
+use native.Mathlib.Omega.{arith}
+use borrow.Author.Tests.{eq-eqb, ne_eqb}
+use lib.Dec.{eqb}
+use Rattle.numbers.specs.Checks.{every_from}
+use Rattle.numbers.proofs.CheckLaws.{every-on, every_here, every-none}
+use Rattle.blocks.specs.Blocks.{payload_word}
+use Rattle.book.proofs.block.unused_zero.Given as goal
+
+abbrev pub invariant-loop-j : goal.invariant-loop-j
+invariant-loop-j l = (3 * l.used + 1 ≤ l.j) × (l.j ≤ 124) × (every_from (λ i. eqb (payload_word l.file l.number i) 0) (3 * l.used + 1) (123 - 3 * l.used) ≡ every_from (λ i. eqb (payload_word l.file l.number i) 0) l.j (124 - l.j))
+
+abbrev pub decreases-loop-j : goal.decreases-loop-j
+decreases-loop-j l = 124 - l.j

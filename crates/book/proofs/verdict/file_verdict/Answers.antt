@@ -1,0 +1,25 @@
+-- `book::verdict::file_verdict` meets its contract: a book that is refused is so by the reader's checks; one that passes them goes on to the
+-- last two.
+use mathlib.Core.Path.{◌≡◌, sym, ◌∙◌}
+use lib.ListN.{length}
+use Rattle.numbers.specs.declared.Checked.TheVariants.{Pass}
+use Rattle.numbers.proofs.CheckLaws.{on, stop}
+use Rattle.book_spec.specs.ReadBook.{book_verdict}
+use Rattle.book_spec.proofs.ReadLaws.{book-accepts}
+use borrow.Author.Rules.{rules}
+use Rattle.book.proofs.verdict.file_verdict.Goals as goal
+
+passed : (c : goal.In_default) → book_verdict (length c.args.file.now) c.args.file.now ≡ Pass
+passed c = sym c.book_verdict-read.ensures ∙ c.in_default.is
+
+pub book_verdict-read-requires : goal.book_verdict-read-requires
+book_verdict-read-requires c = tt
+
+pub returns-in-Fail : goal.returns-in-Fail
+returns-in-Fail c = stop _ (sym c.book_verdict-read.ensures ∙ c.in-Fail.is)
+
+pub last_checks-requires : goal.last_checks-requires
+last_checks-requires c = (book-accepts _ _).0 (passed c)
+
+pub returns : goal.returns
+returns c = on (passed c.before) c.last_checks.ensures
