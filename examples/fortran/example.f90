@@ -3,7 +3,7 @@
 ! steps two tracers under one cap (a step that would pass the cap is refused), each with a book of its own, exports the masses as
 ! doubles and as binary32 values, writes the field as a file, also with two cells edited, and repairs these files, and repairs the
 ! file named.
-! Usage: example FIELD_FILE. To build it, after rt staticlib legzhuro_c:
+! Usage: example FIELD_FILE. To build it, after tools/build.sh legzhuro_c:
 ! gfortran -Jtarget include/legzhuro.f90 examples/fortran/example.f90 target/staticlib/liblegzhuro_c.a -o target/example_fortran
 program example
     use, intrinsic :: iso_c_binding, only: c_double, c_float, c_int8_t, c_int32_t, c_int64_t, c_size_t
