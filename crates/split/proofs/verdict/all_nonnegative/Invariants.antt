@@ -1,0 +1,18 @@
+-- `split::verdict::all_nonnegative` meets its contract: the answer is that of the places from u on.
+use mathlib.Core.Path.{◌≡◌, sym, ◌∙◌}
+use Prim.Native.Nat.{◌≤◌, ◌-◌}
+use native.Mathlib.Nat.{sub-zero}
+use native.Mathlib.Omega.{arith}
+use lib.IntN.{pos}
+use lib.Signed.{le_z}
+use lib.ListN.{length}
+use Rattle.numbers.specs.Lists.{at_ℤ}
+use Rattle.numbers.specs.Checks.{every_from}
+use Rattle.numbers.proofs.CheckLaws.{every-on, every_here, every-none}
+use Rattle.split.proofs.verdict.all_nonnegative.Given as goal
+
+abbrev pub invariant-loop-u : goal.invariant-loop-u
+invariant-loop-u l = (l.u ≤ length l.xs) × (every_from (λ w. le_z (pos 0) (at_ℤ l.xs w)) 0 (length l.xs) ≡ every_from (λ w. le_z (pos 0) (at_ℤ l.xs w)) l.u (length l.xs - l.u))
+
+abbrev pub decreases-loop-u : goal.decreases-loop-u
+decreases-loop-u l = length l.xs - l.u

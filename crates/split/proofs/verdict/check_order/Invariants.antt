@@ -1,0 +1,16 @@
+-- `split::verdict::check_order` meets its contract: the verdict is that of the places from u on.
+use mathlib.Core.Path.{◌≡◌, sym, ◌∙◌}
+use Prim.Native.Nat.{◌≤◌, ◌-◌}
+use native.Mathlib.Nat.{sub-zero}
+use native.Mathlib.Omega.{arith}
+use lib.ListN.{length}
+use Rattle.numbers.specs.Checks.{first_from}
+use Rattle.numbers.proofs.CheckLaws.{first_on, first-here, first-none}
+use Rattle.caas_spec.specs.Operation.{ordered_at, check_split_order}
+use Rattle.split.proofs.verdict.check_order.Given as goal
+
+abbrev pub invariant-loop-u : goal.invariant-loop-u
+invariant-loop-u l = (l.u ≤ length l.lows) × (first_from (ordered_at l.lows l.highs) 5 0 (length l.lows) ≡ first_from (ordered_at l.lows l.highs) 5 l.u (length l.lows - l.u))
+
+abbrev pub decreases-loop-u : goal.decreases-loop-u
+decreases-loop-u l = length l.lows - l.u

@@ -1,0 +1,20 @@
+-- `split::work::fill` meets its contract: the rows passed have their elements.
+use mathlib.Core.Path.{◌≡◌, refl, sym, subst}
+use mathlib.Core.Bool.{true}
+use Prim.Native.Nat.{◌-◌, ◌≤◌}
+use native.Mathlib.Omega.{arith}
+use lib.ListN.{length}
+use mir.Syntax.{w64}
+use mir.Val.{to_z, of_z}
+use Rattle.numbers.specs.Lists.{at_ℤ}
+use Rattle.numbers.proofs.SignedLaws.{read_back}
+use Rattle.scratch_spec.specs.Columns.{Storable, Laid}
+use Rattle.scratch_spec.proofs.ColumnLaws.{in_row, laid-start, laid_next}
+use borrow.Author.Rules.{rules}
+use Rattle.split.proofs.work.fill.Given as goal
+
+abbrev pub invariant-loop-u : goal.invariant-loop-u
+invariant-loop-u l = (l.u ≤ length l.xs) × Laid l.k (length l.xs) (λ w. true) (at_ℤ l.xs) l.u l.initial.s l.s
+
+abbrev pub decreases-loop-u : goal.decreases-loop-u
+decreases-loop-u l = length l.xs - l.u
