@@ -1,0 +1,15 @@
+-- `book_report::work::put_report` meets its contract: a refused book has the line of its refusal, and any other that of its report.
+use native.Mathlib.Omega.{arith}
+use Rattle.book_report.proofs.ReportLaws.{text-refused, text-done}
+use borrow.Author.Rules.{rules}
+use Rattle.book_report.proofs.work.put_report.Goals as goal
+
+pub returns-in-Refused : goal.returns-in-Refused
+returns-in-Refused c =
+    let p = c.put_refusal.ensures in
+    (rw (text-refused (rw c.in-Refused.is at c.read_book-answer.ensures)) at p.0, omega (arith, p.1))
+
+pub returns-in-Report : goal.returns-in-Report
+returns-in-Report c =
+    let p = c.put_line.ensures in
+    (rw (text-done (rw c.in-Report.is at c.read_book-answer.ensures)) at p.0, p.1)
