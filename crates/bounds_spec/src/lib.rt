@@ -5,13 +5,13 @@
 
 // The mass of a cell's air, the mass of its tracer, and a mixing ratio in parts of 1048576 (02): three types, so that none stands in another's
 // place.
-#[derive(Drop)]
+#[derive(Clone, Copy)]
 pub struct AirMass(pub u32);
 
-#[derive(Drop)]
+#[derive(Clone, Copy)]
 pub struct TracerMass(pub u32);
 
-#[derive(Drop)]
+#[derive(Clone, Copy)]
 pub struct Ratio(pub u32);
 
 // What the safety bounds of every cell go by: the smallest low ratio and the largest high ratio of the field.

@@ -46,9 +46,9 @@ pub returns : goal.returns
 unfolding book_start_tells
 returns c =
     let a = c.args in
-    let e = passed c.before.before.before.before in
+    let e = passed c.before.before.before.before.before in
     record {
-      typed = bytes c.before.before.before.before.before.before.before.before;
+      typed = bytes c.before.before.before.before.before.before.before;
       answers = accepted-answered e refl;
       writes = after-pass a.buffer.now e c.put_empty.ensures;
     }

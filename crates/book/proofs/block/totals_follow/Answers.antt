@@ -11,9 +11,7 @@ use Rattle.blocks.specs.Blocks.{payload_word}
 use Rattle.blocks.specs.Words.{word_signed}
 use Rattle.book_spec.specs.ReadBook.{is_next}
 use Rattle.book.proofs.block.totals_follow.Goals as goal
-
-abbrev good : List ℕ → ℕ → ℕ → Bool
-good file number i = is_next (payload_word file number (3 * i)) (word_signed (payload_word file number (3 * i + 1))) (payload_word file number (3 * i + 3))
+use Rattle.book.proofs.block.totals_follow.Invariants.{good}
 
 same : (x y z a b d : ℕ) → x ≡ a → y ≡ b → z ≡ d → is_next x (word_signed y) z ≡ is_next a (word_signed b) d
 same x y z a b d p q r = rw (p, q, r)
@@ -55,7 +53,7 @@ returns-then-not-is_next c =
     let a = c.args in
     let l = c.loop-i in
     sym (l.invariant.1 ∙ every_here (good a.file.now a.number) l.i a.used c.loop-i-test.true
-    (sym (c.is_next.ensures ∙ same _ _ _ _ _ _ c.payload_word-before.ensures c.payload_word-word.ensures c.payload_word-total.ensures) ∙ not-true _ c.if-not-is_next.true))
+    (sym (c.is_next.ensures ∙ same _ _ _ _ _ _ c.payload_word-before.ensures c.payload_word-word.ensures c.payload_word-total.ensures) ∙ c.if-not-is_next.true))
 
 pub overflow_add-i-in-loop-i-2 : goal.overflow_add-i-in-loop-i-2
 overflow_add-i-in-loop-i-2 c = omega arith
@@ -69,7 +67,7 @@ loop-i-preserved c =
     let l = c.loop-i in (
       omega arith,
       l.invariant.1 ∙ every-on (good a.file.now a.number) l.i a.used c.loop-i-test.true
-          (sym (c.is_next.ensures ∙ same _ _ _ _ _ _ c.payload_word-before.ensures c.payload_word-word.ensures c.payload_word-total.ensures) ∙ not-false _ c.if-not-is_next.false),
+          (sym (c.is_next.ensures ∙ same _ _ _ _ _ _ c.payload_word-before.ensures c.payload_word-word.ensures c.payload_word-total.ensures) ∙ c.if-not-is_next.false),
     )
 
 pub returns : goal.returns

@@ -12,6 +12,9 @@ use Rattle.blocks.specs.Words.{word_signed}
 use Rattle.book_spec.specs.ReadBook.{is_next}
 use Rattle.book.proofs.block.totals_follow.Given as goal
 
+abbrev pub good : List ℕ → ℕ → ℕ → Bool
+good file number i = is_next (payload_word file number (3 * i)) (word_signed (payload_word file number (3 * i + 1))) (payload_word file number (3 * i + 3))
+
 abbrev pub invariant-loop-i : goal.invariant-loop-i
 invariant-loop-i l = (l.i ≤ l.used) × (every_from (good l.file l.number) 0 l.used ≡ every_from (good l.file l.number) l.i (l.used - l.i))
 

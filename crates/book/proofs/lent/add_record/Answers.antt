@@ -38,12 +38,12 @@ add_entry-blocks-requires c =
 
 pub overflow_mul-result : goal.overflow_mul-result
 overflow_mul-result c =
-    let s = c.before.before.before.before.before.before.before.before in
+    let s = c.before.before.before.before.before.before.before.before.before in
     omega (arith, c.add_entry-blocks.ensures.1, ap (λ l. count (held_in s.args.book.now l)) (whole s), s.requires.1)
 
 pub returns : goal.returns
 returns c =
-    let s = c.before.before.before.before.before.before.before.before in
+    let s = c.before.before.before.before.before.before.before.before.before in
     let a = s.args in
     let e = sym (whole s) in
     let w : c.signed_word-word.result ≡ signed_word a.source = c.signed_word-word.ensures ∙ ap signed_word (to_z-of_z w32 a.source s.ranges.source) in (

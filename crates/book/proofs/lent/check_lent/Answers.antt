@@ -16,11 +16,17 @@ use Rattle.book_spec.specs.ReadBook.{book_verdict}
 use Rattle.book_spec.specs.LentBook.{check_closing, check_full}
 use borrow.Author.Rules.{rules}
 use Rattle.book.proofs.lent.check_lent.Goals as goal
+use Rattle.book.proofs.lent.check_lent.Lts as lts
+use Rattle.book.proofs.lent.check_lent.Tie as tie
+use Rattle.book.proofs.lent.check_lent.Reads as reads
 
-passed : (c : goal.In_default) → check_file_length max_bytes c.args.told ≡ Pass
+abbrev In_default : Type 0
+In_default = lts.Past-After-enum_told tie.the-claims reads.Pre reads.Post
+
+passed : (c : In_default) → check_file_length max_bytes c.args.told ≡ Pass
 passed c = sym c.check_file_length-size.ensures ∙ c.in_default.is
 
-inside : (c : goal.In_default) → c.args.told ≤ length c.args.book.now
+inside : (c : In_default) → c.args.told ≤ length c.args.book.now
 inside c = omega (arith, ((length-decides max_bytes _).passes.0 (passed c)).1.0, c.requires)
 
 pub check_file_length-size-requires : goal.check_file_length-size-requires
@@ -31,7 +37,7 @@ unfolding book_verdict
 returns-in-Fail c = stop _ (sym (stop _ (sym c.check_file_length-size.ensures ∙ c.in-Fail.is)))
 
 pub slice_bounds-file_verdict-end : goal.slice_bounds-file_verdict-end
-slice_bounds-file_verdict-end c = inside c
+slice_bounds-file_verdict-end c = inside c.before
 
 pub file_verdict-requires : goal.file_verdict-requires
 file_verdict-requires c = tt
@@ -41,7 +47,7 @@ returns c =
     let a = c.args in
     let part = take a.told a.book.now in
     let same = sub-zero a.told in
-    let long : length part ≡ a.told = length-take-le a.told a.book.now (inside c.before.before) in
+    let long : length part ≡ a.told = length-take-le a.told a.book.now (inside c.before.before.before) in
     c.file_verdict.ensures
     ∙ ap (λ k. let file = take k a.book.now in first (book_verdict (length file) file ∷ check_closing (book_of file) a.total (length file / 512) ∷ check_full (book_of file) ∷ [])) same
     ∙ ap (λ l. first (book_verdict l part ∷ check_closing (book_of part) a.total (l / 512) ∷ check_full (book_of part) ∷ [])) long

@@ -41,7 +41,7 @@ put_block-requires c = let r = room c.before.before.before.before.before.before.
 
 pub returns-then-used-lt41 : goal.returns-then-used-lt41
 returns-then-used-lt41 c =
-    let s = c.before.before.before.before.before.before.before.before.before.before.before.before.before.before.before.before.before.before.before in
+    let s = c.before.before.before.before.before.before.before.before.before.before.before.before.before.before.before.before.before in
     let a = s.args in (
       entry-last a.buffer.now a.blocks (held s) s.requires.0 a.word a.outcome a.total c.payload_word-used.result (omega arith)
           c.payload_word-used.ensures c.if-used-lt41.true c.load_words.ensures c.enter.ensures c.put_block.ensures,
@@ -49,7 +49,7 @@ returns-then-used-lt41 c =
     )
 
 pub payload_word-last-requires : goal.payload_word-last-requires
-payload_word-last-requires c = let r = room c.before.before.before.before.before.before in (r.0, r.1.1, omega arith)
+payload_word-last-requires c = let r = room c.before.before.before.before.before in (r.0, r.1.1, omega arith)
 
 pub bounds-words-0 : goal.bounds-words-0
 bounds-words-0 c = omega (arith, zeros c.before.before.before.before.before)
@@ -68,7 +68,7 @@ shape_of-words c = ap length c.enter-2.ensures ∙ simp length-set
 
 pub returns : goal.returns
 returns c =
-    let s = c.before.before.before.before.before.before.before.before.before.before.before.before.before.before.before.before in
+    let s = c.before.before.before.before.before.before.before.before.before.before.before.before.before.before in
     let a = s.args in
     let o = next-opens a.buffer.now a.blocks (held s) s.requires.0 (λ l. absurd (omega (arith, l, c.if-used-lt41.false, c.payload_word-used.ensures))) in (
       entry_next a.buffer.now a.blocks (held s) s.requires.0 a.word a.outcome a.total c.payload_word-used.result (omega arith)

@@ -24,12 +24,12 @@ pub payload_word-used-requires : goal.payload_word-used-requires
 payload_word-used-requires c = let f = c.requires in (f.some, omega (arith, f.whole), omega arith)
 
 pub overflow_mul-used : goal.overflow_mul-used
-overflow_mul-used c = omega (arith, most c.before.before, c.payload_word-used.ensures)
+overflow_mul-used c = omega (arith, most c.before.before.before, c.payload_word-used.ensures)
 
 pub payload_word-requires : goal.payload_word-requires
 payload_word-requires c =
     let f = c.requires in
-    (f.some, omega (arith, f.whole), omega (arith, most c.before.before, c.payload_word-used.ensures))
+    (f.some, omega (arith, f.whole), omega (arith, most c.before.before.before, c.payload_word-used.ensures))
 
 pub returns : goal.returns
 returns c =

@@ -33,7 +33,7 @@ overflow_add-result c = omega (arith, c.requires.few)
 
 pub returns : goal.returns
 returns c =
-    let s = c.before.before in
+    let s = c.before.before.before in
     let k = length s.args.file.now / 512 in
     let y : Bytes s.args.file.now = λ i. (c.shared_slice_known-1.given i).fits in
     let e = ap (λ u. 41 * (k - 1) + u) c.payload_word.ensures in (

@@ -13,11 +13,17 @@ use Rattle.book_spec.specs.Book.{report_of, book_of}
 use Rattle.book_spec.proofs.ReportLaws.{report-inflow, report-outflow, report-ends}
 use Rattle.book_spec.proofs.MeansLaws.{read-closing}
 use Rattle.book.proofs.report.report.Goals as goal
+use Rattle.book.proofs.report.report.Lts as lts
+use Rattle.book.proofs.report.report.Tie as tie
+use Rattle.book.proofs.report.report.Reads as reads
+
+abbrev After-shared_slice_known-1 : Type 0
+After-shared_slice_known-1 = lts.After-shared_slice_known tie.the-claims reads.Pre reads.Post
 
 abbrev source_at : List ℕ → ℕ → ℤ
 source_at file i = word_signed (payload_word file (1 + i / 41) (3 * (i % 41) + 1))
 
-bytes : (c : goal.After-shared_slice_known-1) → Bytes c.args.file.now
+bytes : (c : After-shared_slice_known-1) → Bytes c.args.file.now
 bytes c = λ i. (c.shared_slice_known-1.given i).fits
 
 -- a report is its four numbers
@@ -41,9 +47,9 @@ closing_of-closing-requires c = c.requires
 
 pub returns : goal.returns
 returns c =
-    let s = c.before.before.before.before.before.before in
+    let s = c in
     let file = s.args.file.now in
-    let y = bytes c.before.before.before.before.before in
+    let y = bytes c.before.before.before.before.before.before in
     let n = c.count_of-n.ensures.0 in
     let ends = report-ends file y s.requires in
     same (report_of (book_of file))

@@ -10,10 +10,7 @@ use Rattle.numbers.proofs.SumLaws.{sum_to-next}
 use Rattle.blocks.specs.Words.{word_signed}
 use Rattle.blocks.specs.Blocks.{payload_word}
 use Rattle.book.proofs.report.sum_below.Goals as goal
-
--- what record i adds
-abbrev part : List ℕ → ℕ → ℕ
-part file i = under (word_signed (payload_word file (1 + i / 41) (3 * (i % 41) + 1)))
+use Rattle.book.proofs.report.sum_below.Invariants.{part}
 
 pub loop-i-init : goal.loop-i-init
 unfolding sum_to

@@ -8,8 +8,14 @@ use Rattle.book_spec.specs.ReadBook.{book_verdict}
 use Rattle.book_spec.proofs.ReadLaws.{book-accepts}
 use borrow.Author.Rules.{rules}
 use Rattle.book.proofs.verdict.file_verdict.Goals as goal
+use Rattle.book.proofs.verdict.file_verdict.Lts as lts
+use Rattle.book.proofs.verdict.file_verdict.Tie as tie
+use Rattle.book.proofs.verdict.file_verdict.Reads as reads
 
-passed : (c : goal.In_default) → book_verdict (length c.args.file.now) c.args.file.now ≡ Pass
+abbrev In_default : Type 0
+In_default = lts.Past-After-enum_told tie.the-claims reads.Pre reads.Post
+
+passed : (c : In_default) → book_verdict (length c.args.file.now) c.args.file.now ≡ Pass
 passed c = sym c.book_verdict-read.ensures ∙ c.in_default.is
 
 pub book_verdict-read-requires : goal.book_verdict-read-requires
@@ -19,7 +25,7 @@ pub returns-in-Fail : goal.returns-in-Fail
 returns-in-Fail c = stop _ (sym c.book_verdict-read.ensures ∙ c.in-Fail.is)
 
 pub last_checks-requires : goal.last_checks-requires
-last_checks-requires c = (book-accepts _ _).0 (passed c)
+last_checks-requires c = (book-accepts _ _).0 (passed c.before)
 
 pub returns : goal.returns
-returns c = on (passed c.before) c.last_checks.ensures
+returns c = on (passed c.before.before) c.last_checks.ensures
