@@ -66,8 +66,8 @@ pub fn scaled(x: f64, k: u32) -> Product
 
 // A normal double × 2^k. Its size is digits × 2^exponent ÷ 2^1075.
 pub fn normal(x: f64, k: u32) -> Product
-    requires fact_1 { k ≤ 30 }
-    requires fact_2 { InClass Normal x }
+    requires scale_bound { k ≤ 30 }
+    requires is_normal { InClass Normal x }
     ensures { result ≡ product k x }
 {
     let bits = f64::to_bits(x);
@@ -78,8 +78,8 @@ pub fn normal(x: f64, k: u32) -> Product
 
 // ±digits × 2^place ÷ 2^1075, for digits of 53 bits.
 pub fn digits_at(negative: bool, digits: u64, place: u64) -> Product
-    requires fact_1 { 2 ^ 52 ≤ digits }
-    requires fact_2 { digits < 2 ^ 53 }
+    requires at_least { 2 ^ 52 ≤ digits }
+    requires below { digits < 2 ^ 53 }
     ensures { result ≡ fraction negative (digits * 2 ^ place) (2 ^ 1075) }
 {
     // 2^52 or more, which is out of every range

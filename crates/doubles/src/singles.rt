@@ -18,8 +18,8 @@ pub fn highest_bit(mass: u32) -> u32
 
 // mass ÷ 2^highest, which is at least 1 and below 2, in units of 2^−23, to nearest with ties to even: 24 bits, or 2^24.
 pub fn significand(mass: u32, highest: u32) -> u32
-    requires fact_1 { mass < 2 ^ 31 }
-    requires fact_2 { HighestBit mass highest }
+    requires mass_bound { mass < 2 ^ 31 }
+    requires is_highest { HighestBit mass highest }
     ensures { result ≡ significand mass highest }
 {
     closest((mass as u64) << 23, 1u64 << highest) as u32
@@ -28,8 +28,8 @@ pub fn significand(mass: u32, highest: u32) -> u32
 // The binary32 nearest to mass × 2^−k, ties to even. Its pattern is the biased exponent, 127 + highest − k, and the significand without its
 // leading bit. A significand of 2^24 carries into the exponent.
 pub fn single(mass: u32, k: u32) -> f32
-    requires fact_1 { mass < 2 ^ 31 }
-    requires fact_2 { k ≤ 30 }
+    requires mass_bound { mass < 2 ^ 31 }
+    requires scale_bound { k ≤ 30 }
     ensures { result ≡ export_single mass k }
 {
     if mass == 0 {

@@ -48,8 +48,8 @@ pub fn added_nearest(whole: u64, rest: Rest) -> u64
 
 // size ÷ unit to the nearest whole number, ties to even.
 pub fn closest(size: u64, unit: u64) -> u64
-    requires fact_1 { size < 2 ^ 63 }
-    requires fact_2 { 0 < unit }
+    requires size_bound { size < 2 ^ 63 }
+    requires unit_nonzero { 0 < unit }
     ensures { result ≡ closest size unit }
 {
     let whole = size / unit;

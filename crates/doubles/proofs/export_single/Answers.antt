@@ -15,7 +15,7 @@ pub single-requires : goal.single-requires
 single-requires c =
     let a = c.args in
     let f = (export-accepts a.mass a.scale).0 (sym c.check_export.ensures ∙ c.in-Pass.is) in
-    record { fact_1 = omega (arith, f.small); fact_2 = f.scale }
+    record { mass_bound = omega (arith, f.small); scale_bound = f.scale }
 
 pub returns-in-Pass : goal.returns-in-Pass
 unfolding single_tells

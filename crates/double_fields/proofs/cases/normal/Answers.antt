@@ -14,7 +14,7 @@ held : (c : goal.Start) → T (fits binary64 c.args.x)
 held c = subst T (sym c.well_formed.0.1) tt
 
 pub float_to_bits-bits : goal.float_to_bits-bits
-float_to_bits-bits c = normal-no-nan c.args.x c.requires.fact_2
+float_to_bits-bits c = normal-no-nan c.args.x c.requires.is_normal
 
 pub returns : goal.returns
 returns c =
@@ -24,4 +24,4 @@ returns c =
     let b = to_bits binary64 x in
     c.digits_at.ensures
     ∙ ap (λ (s : Bool). fraction s ((fraction_field b + 2 ^ 52) * 2 ^ (exponent_field b + k)) (2 ^ 1075)) (below-zero x)
-    ∙ sym (normal-product k x (held z) z.requires.fact_2)
+    ∙ sym (normal-product k x (held z) z.requires.is_normal)

@@ -15,7 +15,7 @@ arm : (x : Float) {q r : Class} → InClass q x → q ≡ r → InClass r x
 arm x h e = subst (λ (c : Class). InClass c x) e h
 
 pub normal-requires : goal.normal-requires
-normal-requires c = record { fact_1 = c.requires; fact_2 = arm c.args.x c.class_of.ensures c.in-Normal.is }
+normal-requires c = record { scale_bound = c.requires; is_normal = arm c.args.x c.class_of.ensures c.in-Normal.is }
 
 pub returns-in-Zero : goal.returns-in-Zero
 returns-in-Zero c = let z = c.args in sym (zero-product z.k z.x (arm c.args.x c.class_of.ensures c.in-Zero.is))

@@ -10,7 +10,7 @@ use Rattle.doubles_spec.proofs.SingleLaws.{highest-small, significand-top}
 use Rattle.doubles.proofs.singles.significand.Goals as goal
 
 small : (c : goal.Start) → c.args.highest ≤ 30
-small c = highest-small c.requires.fact_1 c.requires.fact_2
+small c = highest-small c.requires.mass_bound c.requires.is_highest
 
 unit : (c : goal.Start) → 1 * 2 ^ c.args.highest % 2 ^ 64 ≡ 2 ^ c.args.highest
 unit c = unit-is c.args.highest (omega (arith, small c))
@@ -19,7 +19,7 @@ pub overflow_shl-highest : goal.overflow_shl-highest
 overflow_shl-highest c = omega (arith, small c)
 
 pub closest-requires : goal.closest-requires
-closest-requires c = record { fact_1 = omega arith; fact_2 = subst (λ (u : ℕ). 0 < u) (sym (unit c)) (pow_pos c.args.highest) }
+closest-requires c = record { size_bound = omega arith; unit_nonzero = subst (λ (u : ℕ). 0 < u) (sym (unit c)) (pow_pos c.args.highest) }
 
 -- what the division gives
 is : (c : goal.After-closest) → c.closest.result ≡ significand c.args.mass c.args.highest
@@ -31,7 +31,7 @@ is c =
     ∙ ap (λ (n : ℕ). closest (a.mass * 2 ^ 23) n) (unit c.before)
 
 pub overflow_cast-result : goal.overflow_cast-result
-overflow_cast-result c = let a = c.args in omega (arith, is c, significand-top a.mass a.highest c.requires.fact_2)
+overflow_cast-result c = let a = c.args in omega (arith, is c, significand-top a.mass a.highest c.requires.is_highest)
 
 pub returns : goal.returns
 returns c = is c

@@ -14,7 +14,7 @@ unfolding of_bits
 returns-then-mass-eq0 c = let a = c.args in sym (ap (λ (m : ℕ). export_single m a.k) c.if-mass-eq0.true ∙ single-zero a.k)
 
 small : (c : goal.After-highest_bit-highest) → c.highest_bit-highest.result ≤ 30
-small c = highest-small c.requires.fact_1 c.highest_bit-highest.ensures
+small c = highest-small c.requires.mass_bound c.highest_bit-highest.ensures
 
 pub overflow_add-result : goal.overflow_add-result
 overflow_add-result c = omega (arith, small c)
