@@ -1,0 +1,17 @@
+-- `solve::load::blank` meets its contract: of the rows passed, those from n on have 0.
+use mathlib.Core.Path.{◌≡◌, refl}
+use Prim.Native.Nat.{◌-◌, ◌≤◌}
+use native.Mathlib.Omega.{arith}
+use lib.Dec.{leb}
+use lib.IntN.{pos}
+use borrow.Author.Tests.{lt-leb, le-leb}
+use Rattle.scratch_spec.specs.Columns.{Laid}
+use Rattle.scratch_spec.proofs.ColumnLaws.{in_row, laid-start, laid-to, laid_next}
+use borrow.Author.Rules.{rules}
+use Rattle.solve.proofs.load.blank.Given as goal
+
+abbrev pub invariant-loop-u : goal.invariant-loop-u
+invariant-loop-u l = (l.n ≤ l.u) × (l.u ≤ l.m) × Laid l.k l.m (λ w. leb l.n w) (λ w. pos 0) l.u l.initial.s l.s
+
+abbrev pub decreases-loop-u : goal.decreases-loop-u
+decreases-loop-u l = l.m - l.u

@@ -1,0 +1,19 @@
+-- `solve::load::change` meets its contract: the sum over the cells passed; 512 of them, each below 2 ^ 33, do not overflow.
+use mathlib.Core.Path.{◌≡◌, refl, ◌∙◌, ap}
+use Prim.Native.Nat.{◌*◌, ◌^◌, ◌-◌, ◌≤◌}
+use native.Mathlib.Omega.{arith}
+use lib.IntN.{pos, nat_abs, ◌-ℤ◌}
+use lib.ListN.{length}
+use mir.Syntax.{w32}
+use mir.ValLaws.{to_z-of_z}
+use Rattle.numbers.specs.Sums.{ℕ_adds, sum_to}
+use Rattle.numbers.specs.Lists.{at, at_ℤ}
+use Rattle.solve_spec.proofs.GatherLaws.{sum-on}
+use borrow.Author.Rules.{rules}
+use Rattle.solve.proofs.load.change.Given as goal
+
+abbrev pub invariant-loop-c : goal.invariant-loop-c
+invariant-loop-c l = (l.c ≤ length l.masses) × (l.sum ≤ l.c * 2 ^ 33) × (l.sum ≡ sum_to ℕ_adds l.c (λ i. nat_abs (pos (at l.masses i) -ℤ at_ℤ l.targets i)))
+
+abbrev pub decreases-loop-c : goal.decreases-loop-c
+decreases-loop-c l = length l.masses - l.c

@@ -1,0 +1,16 @@
+-- `solve::load::fill_with` meets its contract: the rows passed have x.
+use mathlib.Core.Path.{◌≡◌, refl}
+use mathlib.Core.Bool.{true}
+use Prim.Native.Nat.{◌-◌, ◌≤◌}
+use native.Mathlib.Omega.{arith}
+use lib.IntN.{pos}
+use Rattle.scratch_spec.specs.Columns.{Laid}
+use Rattle.scratch_spec.proofs.ColumnLaws.{in_row, laid-start, laid_next}
+use borrow.Author.Rules.{rules}
+use Rattle.solve.proofs.load.fill_with.Given as goal
+
+abbrev pub invariant-loop-u : goal.invariant-loop-u
+invariant-loop-u l = (l.u ≤ l.m) × Laid l.k l.m (λ w. true) (λ w. pos l.x) l.u l.initial.s l.s
+
+abbrev pub decreases-loop-u : goal.decreases-loop-u
+decreases-loop-u l = l.m - l.u

@@ -1,0 +1,36 @@
+-- `solve::load::take_out` meets its contract: the masses of the rows passed are written over the list.
+use mathlib.Core.Path.{◌≡◌, refl, ◌∙◌}
+use Prim.Native.Nat.{ℕ, ◌-◌, ◌≤◌}
+use native.Mathlib.Omega.{arith}
+use lib.ListN.{length, length-set}
+use Rattle.numbers.specs.Lists.{list_to, written}
+use Rattle.numbers.proofs.ListLaws.{written_none, next-entry, all-entries}
+use Rattle.scratch_spec.specs.Columns.{MASS, num}
+use Rattle.scratch_spec.proofs.ColumnLaws.{in_row}
+use borrow.Author.Rules.{rules}
+use Rattle.solve.proofs.load.take_out.Goals as goal
+
+pub loop-u-init : goal.loop-u-init
+loop-u-init c = (omega arith, refl, written_none _ 0 _)
+
+pub get_above-requires : goal.get_above-requires
+get_above-requires c = in_row _ (length c.args.masses.now) _ _ (omega arith) (omega arith) c.requires.masses_in_bounds
+
+pub narrow-requires : goal.narrow-requires
+narrow-requires c = omega (arith, c.get_above.ensures.0, c.requires.by_index c.loop-u.u (omega arith))
+
+pub loop-u-preserved : goal.loop-u-preserved
+loop-u-preserved c =
+    let w = c.loop-u in
+    let old = c.args.masses.now in
+    let f : ℕ → ℕ = λ i. num MASS c.args.s.now i in (
+      omega arith,
+      length-set w.masses w.u c.narrow.result ∙ w.invariant.1,
+      next-entry old f w.u (omega arith) w.invariant.2 (c.narrow.ensures ∙ c.get_above.ensures.0),
+    )
+
+pub returns : goal.returns
+returns c =
+    let old = c.args.masses.now in
+    let e : c.loop-u.u ≡ length old = omega arith in
+    all-entries old (λ w. num MASS c.args.s.now w) c.loop-u.u (length old) e refl c.loop-u.invariant.2
