@@ -15,7 +15,7 @@ pub struct TracerMass(pub u32);
 pub struct Ratio(pub u32);
 
 // What the safety bounds of every cell go by: the smallest low ratio and the largest high ratio of the field.
-#[derive(Drop)]
+#[derive(Clone, Copy)]
 pub struct FieldRatios {
     pub smallest_low: Ratio,
     pub largest_high: Ratio,

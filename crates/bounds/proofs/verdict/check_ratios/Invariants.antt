@@ -1,0 +1,17 @@
+-- `bounds::verdict::check_ratios` meets its contract: the verdict is that of the cells from c on.
+use mathlib.Core.Path.{◌≡◌, sym, ◌∙◌}
+use Prim.Native.Nat.{◌≤◌, ◌-◌}
+use native.Mathlib.Nat.{sub-zero}
+use native.Mathlib.Omega.{arith}
+use borrow.Author.Tests.{not-true, not-false}
+use lib.ListN.{length}
+use Rattle.numbers.specs.Checks.{first_from}
+use Rattle.numbers.proofs.CheckLaws.{first_on, first-here, first-none}
+use Rattle.bounds_spec.specs.Bounds.{ratios_ok_at, check_ratios}
+use Rattle.bounds.proofs.verdict.check_ratios.Given as goal
+
+abbrev pub invariant-loop-c : goal.invariant-loop-c
+invariant-loop-c l = (l.c ≤ length l.low_ratios) × (first_from (ratios_ok_at l.low_ratios l.high_ratios) 18 0 (length l.low_ratios) ≡ first_from (ratios_ok_at l.low_ratios l.high_ratios) 18 l.c (length l.low_ratios - l.c))
+
+abbrev pub decreases-loop-c : goal.decreases-loop-c
+decreases-loop-c l = length l.low_ratios - l.c
