@@ -13,7 +13,7 @@ use numbers::Checked;
 use numbers::arith::least;
 
 // A layout: how many words a record has, and how many records a block has.
-#[derive(Drop)]
+#[derive(Clone, Copy)]
 pub struct Table {
     pub words: usize,
     pub records: usize,
