@@ -9,7 +9,7 @@
 // implementation of the papers' own words in another language, and not by this program. Numbers stay far below the remainders by which overflow
 // is ruled out.
 // Relies on `kept`, `book` and `book_report`, which it tests, `kept_spec`, `book_spec`, `qlt_spec` and `text` for the answers, `blocks` to
-// damage a book, `test_support`, `numbers`, and the kit's `io` and `libc`.
+// damage a book, `test_support`, `numbers`, and the kit's `io`.
 #![tactic(auto)]
 
 ghost use Rattle.std.specs.Prelude.{◌≤◌, length};

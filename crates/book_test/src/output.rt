@@ -6,9 +6,8 @@ use crate::buffer::blocks_of;
 use crate::counts::check;
 use book_report::report_book;
 use book_spec::BookStarted;
-use libc::STDOUT_FILENO;
 use numbers::lists::sum_of;
-use test_support::output::{end_line, print_named, wide};
+use test_support::output::{STANDARD_OUTPUT, end_line, print_named, wide};
 use text::Reported;
 
 // Puts the report of a book at the front of `out`, and returns its length.
@@ -30,7 +29,7 @@ pub fn show_report(buffer: &[u8; 32768], length: usize) {
     let n = 512 * blocks_of(length);
     let mut out = [0u8; 128];
     let k = put_report(&all[0..n], &mut out);
-    io::write_all(STDOUT_FILENO, &out[..k]);
+    io::write_all(STANDARD_OUTPUT, &out[..k]);
 }
 
 // What a start gave.
@@ -51,7 +50,7 @@ pub fn show_refused(number: u32) {
 // The line of a full book.
 pub fn show_full(buffer: &[u8; 32768], length: usize) {
     print_named(b"full length", length as u64);
-    io::write_all(STDOUT_FILENO, b" ");
+    io::write_all(STANDARD_OUTPUT, b" ");
     show_report(buffer, length);
 }
 

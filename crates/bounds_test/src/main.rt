@@ -10,7 +10,7 @@
 // sum shared out, or `refused` with number and place, and the kept masses as the call left them. The cases end with the input, of which at most
 // 65,536 bytes are read.
 // Relies on `bounds`, which it tests, and `kept`, `bounds_spec`, `kept_spec` and `qlt_spec` for the answers, `test_support`, `numbers`, and the
-// kit's `io` and `libc`.
+// kit's `io`.
 #![tactic(auto)]
 
 ghost use Rattle.std.specs.Prelude.{◌+◌, ◌*◌, ◌≤◌, length};
@@ -20,7 +20,7 @@ use input::Case;
 use kept_spec::Balance;
 use qlt_spec::SCRATCH_PER_NODE;
 use test_support::books::start;
-use test_support::input::{later, skip};
+use test_support::input::{STANDARD_INPUT, later, skip};
 use test_support::runs::{fill, fill_targets};
 
 mod input;
@@ -209,6 +209,6 @@ fn run_all(text: &[u8]) {
 // Reads the input, and runs its cases.
 fn main() {
     let mut space = io::large_buffer();
-    let n = io::read_full(libc::STDIN_FILENO, &mut space);
+    let n = io::read_full(STANDARD_INPUT, &mut space);
     run_all(&space[..n]);
 }

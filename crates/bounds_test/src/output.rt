@@ -3,14 +3,13 @@ ghost use Rattle.std.specs.Prelude.{◌≤◌, length};
 
 use bounds_spec::Bounded;
 use kept_spec::Stepped;
-use libc::STDOUT_FILENO;
-use test_support::output::{end_line, print_list, print_refusal, print_repair};
+use test_support::output::{STANDARD_OUTPUT, end_line, print_list, print_refusal, print_repair};
 
 // A list after its name.
 fn print_bounds(name: &[u8], xs: &[u32])
     requires { length xs.now ≤ 600 }
 {
-    io::write_all(STDOUT_FILENO, name);
+    io::write_all(STANDARD_OUTPUT, name);
     print_list(xs);
 }
 
@@ -18,7 +17,7 @@ fn print_bounds(name: &[u8], xs: &[u32])
 fn print_answer(answer: Bounded) {
     match answer {
         Bounded::Done => {
-            io::write_all(STDOUT_FILENO, b"done");
+            io::write_all(STANDARD_OUTPUT, b"done");
         }
         Bounded::Refused { number, place } => print_refusal(number, place),
     }
@@ -45,7 +44,7 @@ fn print_step(answer: Stepped) {
             balance: _,
             length: _,
         } => {
-            io::write_all(STDOUT_FILENO, b"done");
+            io::write_all(STANDARD_OUTPUT, b"done");
             print_repair(repair.outcome, repair.total, repair.change, repair.shared);
         }
         Stepped::Refused { number, place } => print_refusal(number, place),
@@ -56,7 +55,7 @@ fn print_step(answer: Stepped) {
 pub fn show_step(answer: Stepped, kept: &[u32])
     requires { length kept.now ≤ 600 }
 {
-    io::write_all(STDOUT_FILENO, b"step ");
+    io::write_all(STANDARD_OUTPUT, b"step ");
     print_step(answer);
     print_list(kept);
     end_line();

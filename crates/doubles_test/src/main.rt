@@ -7,13 +7,13 @@
 // taken as 4294967295.
 // A line has `units` and the five units, `double` or `single` and its bit pattern, or `refused` with number and place. Where the refusal
 // carries a double, its bit pattern follows, or `nan`. The cases end with the input, of which at most 65,536 bytes are read.
-// Relies on `doubles`, which it tests, `doubles_spec` for the answers, `test_support`, and the kit's `io` and `libc`.
+// Relies on `doubles`, which it tests, `doubles_spec` for the answers, `test_support`, and the kit's `io`.
 #![tactic(auto)]
 
 ghost use Rattle.std.specs.Prelude.{◌≤◌, length};
 
 use doubles_spec::{CellDoubles, Exported};
-use test_support::input::{later, read_unsigned, skip};
+use test_support::input::{STANDARD_INPUT, later, read_unsigned, skip};
 use test_support::output::{show_no_kind, show_refusal};
 
 mod input;
@@ -115,6 +115,6 @@ fn run_all(text: &[u8]) {
 // Reads the input, and runs its cases.
 fn main() {
     let mut space = io::large_buffer();
-    let n = io::read_full(libc::STDIN_FILENO, &mut space);
+    let n = io::read_full(STANDARD_INPUT, &mut space);
     run_all(&space[..n]);
 }

@@ -1,8 +1,7 @@
 // What a call answered, as a line of text.
 use doubles_spec::{CellUnits, Exported, Imported, SingleExported};
-use libc::STDOUT_FILENO;
 use test_support::output::{
-    end_line, print_number, print_refusal, print_signed, show_refusal, wide,
+    STANDARD_OUTPUT, end_line, print_number, print_refusal, print_signed, show_refusal, wide,
 };
 
 // A space and a target.
@@ -15,7 +14,7 @@ fn print_double(x: f64) {
     if x == x {
         print_number(f64::to_bits(x));
     } else {
-        io::write_all(STDOUT_FILENO, b" nan");
+        io::write_all(STANDARD_OUTPUT, b" nan");
     }
 }
 
@@ -24,13 +23,13 @@ fn print_single(x: f32) {
     if x == x {
         print_number(wide(f32::to_bits(x)));
     } else {
-        io::write_all(STDOUT_FILENO, b" nan");
+        io::write_all(STANDARD_OUTPUT, b" nan");
     }
 }
 
 // The five units of a cell.
 fn print_units(units: CellUnits) {
-    io::write_all(STDOUT_FILENO, b"units");
+    io::write_all(STANDARD_OUTPUT, b"units");
     print_target(units.target);
     print_number(wide(units.low));
     print_number(wide(units.high));
@@ -69,7 +68,7 @@ pub fn show_import(answer: Imported) {
 pub fn show_export(answer: Exported) {
     match answer {
         Exported::Double(x) => {
-            io::write_all(STDOUT_FILENO, b"double");
+            io::write_all(STANDARD_OUTPUT, b"double");
             print_double(x);
             end_line();
         }
@@ -83,7 +82,7 @@ pub fn show_export(answer: Exported) {
 pub fn show_export_single(answer: SingleExported) {
     match answer {
         SingleExported::Single(x) => {
-            io::write_all(STDOUT_FILENO, b"single");
+            io::write_all(STANDARD_OUTPUT, b"single");
             print_single(x);
             end_line();
         }

@@ -8,7 +8,7 @@
 // the totals and at most 66000, and the longest wait at most 8. `stdout` was written by an implementation of the papers' own words in another
 // language, and not by this program. Each member has a book of its own, started from the total that it opens with and lent along with its steps;
 // nothing of it is printed. Numbers stay far below the remainders by which overflow is ruled out. Relies on `turns` and `family`, which it
-// tests, `book`, `family_spec`, `kept_spec`, `book_spec` and `qlt_spec` for the answers, `test_support`, `io` and `libc`, and `numbers` in proofs.
+// tests, `book`, `family_spec`, `kept_spec`, `book_spec` and `qlt_spec` for the answers, `test_support`, `io`, and `numbers` in proofs.
 #![tactic(auto)]
 
 use calls::one_call;

@@ -3,15 +3,14 @@ ghost use Rattle.std.specs.Prelude.{◌≤◌};
 
 use crate::Run;
 use family_spec::{Family, Started};
-use libc::STDOUT_FILENO;
-use test_support::output::{end_line, print_check, print_named, print_number, wide};
+use test_support::output::{STANDARD_OUTPUT, end_line, print_check, print_named, print_number, wide};
 use turns::waiting_count;
 
 // What Start gave.
 pub fn show_started(answer: Started) {
     match answer {
         Started::Done => {
-            io::write_all(STDOUT_FILENO, b"start done");
+            io::write_all(STANDARD_OUTPUT, b"start done");
         }
         Started::Refused { number, place: _ } => {
             print_named(b"start refused", wide(number));

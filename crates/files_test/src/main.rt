@@ -21,22 +21,23 @@
 // order above, a check number of all its entries, with those past the field or the file. Of a payload it has `payload`, its length and its
 // check number. The cases end with the input, of which at most 65,536 bytes are read.
 // Relies on `field_file`, `answer_file` and `blocks`, which it tests, `files_spec` for the answers, `qlt_spec`, `test_support`, `numbers`,
-// and the kit's `io`, `os` and `libc`.
+// and the kit's `io`.
 #![tactic(auto)]
 
 ghost use Rattle.std.specs.Prelude.{◌≤◌, ◌<◌, length};
 
 use input::{FieldCase, Lengths, WriteCase};
 use numbers::arith::index;
-use test_support::files::{last_digit, load, open_field};
-use test_support::input::{later, read_unsigned, skip};
+use std::fs::File;
+use test_support::files::{last_digit, load, open, open_field};
+use test_support::input::{STANDARD_INPUT, later, read_unsigned, skip};
 use test_support::output::{end_line, show_no_kind};
 
 mod input;
 mod output;
 
 // Opens an answer file of data/ by its number.
-fn open_answer(number: u64) -> i32 {
+fn open_answer(rt: &HostRuntime, number: u64) -> Option<File> {
     let name = [
         last_digit(number / 100),
         last_digit(number / 10),
@@ -49,7 +50,7 @@ fn open_answer(number: u64) -> i32 {
         b'e',
         b'r',
     ];
-    os::open_read(&name)
+    open(rt, &name)
 }
 
 // Reads a field file into lists, and prints the line of the case.
@@ -113,14 +114,14 @@ fn run_parts(
 }
 
 // Runs Read a field file on the case whose numbers start at `at`. Returns the position behind them.
-fn run_read(text: &[u8], at: usize) -> usize
+fn run_read(rt: &HostRuntime, text: &[u8], at: usize) -> usize
     requires { at ≤ length text.now }
     ensures { result ≤ length text.now }
 {
     let number = read_unsigned(text, at);
     let lengths = input::read_lengths(text, number.next);
     let mut space = [0u8; 20000];
-    let n = load(open_field(number.value), &mut space);
+    let n = load(open_field(rt, number.value), &mut space);
     let mut targets = [7i32; 520];
     let mut lows = [7u32; 520];
     let mut highs = [7u32; 520];
@@ -173,14 +174,14 @@ fn run_write(text: &[u8], at: usize) -> usize
 }
 
 // The same for Payload.
-fn run_payload(text: &[u8], at: usize) -> usize
+fn run_payload(rt: &HostRuntime, text: &[u8], at: usize) -> usize
     requires { at ≤ length text.now }
     ensures { result ≤ length text.now }
 {
     let number = read_unsigned(text, at);
     let block = read_unsigned(text, number.next);
     let mut space = [0u8; 20000];
-    let n = load(open_field(number.value), &mut space);
+    let n = load(open_field(rt, number.value), &mut space);
     output::print_payload(blocks::payload(&space[..n], index(block.value)));
     end_line();
     block.next
@@ -313,54 +314,54 @@ fn run_masses(file: &[u8], masses: &mut [u32], k: usize)
 }
 
 // The same for Read an answer.
-fn run_answer(text: &[u8], at: usize) -> usize
+fn run_answer(rt: &HostRuntime, text: &[u8], at: usize) -> usize
     requires { at ≤ length text.now }
     ensures { result ≤ length text.now }
 {
     let number = read_unsigned(text, at);
     let room = input::read_length(text, number.next, 600);
     let mut space = [0u8; 20000];
-    let n = load(open_answer(number.value), &mut space);
+    let n = load(open_answer(rt, number.value), &mut space);
     let mut masses = [7u32; 600];
     run_masses(&space[..n], &mut masses, room.value);
     room.next
 }
 
 // Runs the case that starts at `at`. Returns where the next may start.
-fn run_case(text: &[u8], at: usize) -> usize
+fn run_case(rt: &HostRuntime, text: &[u8], at: usize) -> usize
     requires { at ≤ length text.now }
 {
     let kind = read_unsigned(text, at);
     if kind.value == 1 {
-        return skip(text, run_read(text, kind.next));
+        return skip(text, run_read(rt, text, kind.next));
     }
     if kind.value == 2 {
         return skip(text, run_write(text, kind.next));
     }
     if kind.value == 3 {
-        return skip(text, run_payload(text, kind.next));
+        return skip(text, run_payload(rt, text, kind.next));
     }
     if kind.value == 4 {
         return skip(text, run_field(text, kind.next));
     }
     if kind.value == 5 {
-        return skip(text, run_answer(text, kind.next));
+        return skip(text, run_answer(rt, text, kind.next));
     }
     show_no_kind();
     skip(text, kind.next)
 }
 
 // Runs all cases. Each takes at least a byte, so that the loop ends whatever the bytes are.
-fn run_all(text: &[u8]) {
+fn run_all(rt: &HostRuntime, text: &[u8]) {
     let mut at = skip(text, 0);
     while at < text.len() {
-        at = later(at + 1, run_case(text, at));
+        at = later(at + 1, run_case(rt, text, at));
     }
 }
 
 // Reads the input, and runs its cases.
-fn main() {
+fn main(rt: HostRuntime) {
     let mut space = io::large_buffer();
-    let n = io::read_full(libc::STDIN_FILENO, &mut space);
-    run_all(&space[..n]);
+    let n = io::read_full(STANDARD_INPUT, &mut space);
+    run_all(&rt, &space[..n]);
 }

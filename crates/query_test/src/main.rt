@@ -8,23 +8,24 @@
 // - for 2, an argument: a number of bytes, one byte that is passed over, and then the argument's bytes as they are, fewer if the input
 //   ends before. `argument` and the number are printed.
 // Any other kind is a case by itself. The cases end with the input, of which at most 65,536 bytes are read.
-// Relies on `query` and `arguments`, which it tests, `text`, `test_support`, `numbers`, and the kit's `io` and `libc`.
+// Relies on `query` and `arguments`, which it tests, `text`, `test_support`, `numbers`, and the kit's `io`.
 #![tactic(auto)]
 
 ghost use Rattle.std.specs.Prelude.{◌≤◌, length};
 
-use libc::STDOUT_FILENO;
 use numbers::arith::{index, least, smaller};
 use test_support::files::{load, open_field};
-use test_support::input::{later, read_unsigned, skip};
-use test_support::output::{end_line, print_named, show_no_kind, show_refusal, wide};
+use test_support::input::{STANDARD_INPUT, later, read_unsigned, skip};
+use test_support::output::{
+    STANDARD_OUTPUT, end_line, print_named, show_no_kind, show_refusal, wide,
+};
 use text::Reported;
 
 // Queries a cell in a buffer, and prints the text.
 fn print_query(file: &[u8], cell: usize, out: &mut [u8]) {
     match query::query(file, cell, out) {
         Reported::Text(k) => {
-            io::write_all(STDOUT_FILENO, &out[..k]);
+            io::write_all(STANDARD_OUTPUT, &out[..k]);
         }
         Reported::Refused { number, place } => {
             show_refusal(number, place);
@@ -40,7 +41,7 @@ fn print_within(file: &[u8], cell: usize, out: &mut [u8], room: usize)
 }
 
 // Runs Query on the case whose numbers start at `at`. Returns the position behind them.
-fn run_query(text: &[u8], at: usize) -> usize
+fn run_query(rt: &HostRuntime, text: &[u8], at: usize) -> usize
     requires { at ≤ length text.now }
     ensures { result ≤ length text.now }
 {
@@ -48,7 +49,7 @@ fn run_query(text: &[u8], at: usize) -> usize
     let cell = read_unsigned(text, number.next);
     let room = read_unsigned(text, cell.next);
     let mut file = [0u8; 18433];
-    let n = load(open_field(number.value), &mut file);
+    let n = load(open_field(rt, number.value), &mut file);
     let mut out = [9u8; 256];
     print_within(
         &file[..n],
@@ -73,12 +74,12 @@ fn run_argument(text: &[u8], at: usize) -> usize
 }
 
 // Runs the case that starts at `at`. Returns where the next may start.
-fn run_case(text: &[u8], at: usize) -> usize
+fn run_case(rt: &HostRuntime, text: &[u8], at: usize) -> usize
     requires { at ≤ length text.now }
 {
     let kind = read_unsigned(text, at);
     if kind.value == 1 {
-        return skip(text, run_query(text, kind.next));
+        return skip(text, run_query(rt, text, kind.next));
     }
     if kind.value == 2 {
         return skip(text, run_argument(text, kind.next));
@@ -88,16 +89,16 @@ fn run_case(text: &[u8], at: usize) -> usize
 }
 
 // Runs all cases. Each takes at least a byte, so that the loop ends whatever the bytes are.
-fn run_all(text: &[u8]) {
+fn run_all(rt: &HostRuntime, text: &[u8]) {
     let mut at = skip(text, 0);
     while at < text.len() {
-        at = later(at + 1, run_case(text, at));
+        at = later(at + 1, run_case(rt, text, at));
     }
 }
 
 // Reads the input, and runs its cases.
-fn main() {
+fn main(rt: HostRuntime) {
     let mut space = io::large_buffer();
-    let n = io::read_full(libc::STDIN_FILENO, &mut space);
-    run_all(&space[..n]);
+    let n = io::read_full(STANDARD_INPUT, &mut space);
+    run_all(&rt, &space[..n]);
 }

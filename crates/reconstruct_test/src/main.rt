@@ -9,7 +9,7 @@
 // A line has `done` with outcome, total, change and the sum shared out, or `refused` with number and place; then the masses as the call
 // left them, up to 16 of them, or of more their sum and a check number; then `scratch`, how many of its first 4 × m numbers are 0, how
 // many of the later ones are still 5, and how many of the first. The cases end with the input, of which at most 65,536 bytes are read.
-// Relies on `reconstruct`, which it tests, `qlt_spec` for the answer, `test_support`, `numbers`, and the kit's `io` and `libc`.
+// Relies on `reconstruct`, which it tests, `qlt_spec` for the answer, `test_support`, `numbers`, and the kit's `io`.
 #![tactic(auto)]
 
 ghost use Rattle.std.specs.Prelude.{◌≤◌, length};
@@ -17,7 +17,7 @@ ghost use Rattle.reconstruct_test.specs.Cases.{InOrder};
 
 use input::Case;
 use qlt_spec::{Reconstructed, SCRATCH_PER_NODE};
-use test_support::input::{later, skip};
+use test_support::input::{STANDARD_INPUT, later, skip};
 use test_support::runs::fill_targets;
 
 mod input;
@@ -102,6 +102,6 @@ fn run_all(text: &[u8]) {
 // Reads the input, and runs its cases.
 fn main() {
     let mut space = io::large_buffer();
-    let n = io::read_full(libc::STDIN_FILENO, &mut space);
+    let n = io::read_full(STANDARD_INPUT, &mut space);
     run_all(&space[..n]);
 }

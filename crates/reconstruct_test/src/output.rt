@@ -1,11 +1,10 @@
 // What a call answered, and the masses and the scratch after it, as a line of text.
 ghost use Rattle.std.specs.Prelude.{◌≤◌, length};
 
-use libc::STDOUT_FILENO;
 use numbers::arith::{index, smaller, stored_index};
 use qlt_spec::Reconstructed;
 use test_support::output::{
-    end_line, print_list, print_named, print_number, print_refusal, print_repair,
+    STANDARD_OUTPUT, end_line, print_list, print_named, print_number, print_refusal, print_repair,
 };
 
 // How many numbers of a list are x.
@@ -25,7 +24,7 @@ fn count(xs: &[i64], x: i64) -> usize {
 fn print_answer(answer: Reconstructed) {
     match answer {
         Reconstructed::Done(repair) => {
-            io::write_all(STDOUT_FILENO, b"done");
+            io::write_all(STANDARD_OUTPUT, b"done");
             print_repair(repair.outcome, repair.total, repair.change, repair.shared);
         }
         Reconstructed::Refused { number, place } => print_refusal(number, place),

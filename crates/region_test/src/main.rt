@@ -11,7 +11,7 @@
 // with a changed sum masses outside do differ. `stdout` was written by an implementation of the papers' own words in another language, and not by
 // this program. Numbers stay far below the remainders by which overflow is ruled out.
 // Relies on `kept` and `reconstruct`, which it tests, `kept_spec` and `qlt_spec` for the answers, `test_support`, `numbers` in proofs, and the
-// kit's `io` and `libc`.
+// kit's `io`.
 #![tactic(auto)]
 
 use output::show_counts;

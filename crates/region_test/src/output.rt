@@ -3,29 +3,28 @@ ghost use Rattle.std.specs.Prelude.{◌<◌};
 
 use crate::signed::wide_signed;
 use kept_spec::Stepped;
-use libc::STDOUT_FILENO;
 use qlt_spec::{Reconstructed, Repair};
 use test_support::output::{
-    end_line, print_each, print_named, print_refusal, print_repair, print_signed, wide,
+    STANDARD_OUTPUT, end_line, print_each, print_named, print_refusal, print_repair, print_signed, wide,
 };
 
 // What a round is about: the tree's kind, the node and the source.
 pub fn print_round(kind: u32, node: u32, source: i32) {
     print_named(b"tree", wide(kind));
     print_named(b" node", wide(node));
-    io::write_all(STDOUT_FILENO, b" source");
+    io::write_all(STANDARD_OUTPUT, b" source");
     print_signed(wide_signed(source));
 }
 
 // The name of a call, and what an accepted one gives.
 fn print_accepted(name: &[u8], repair: Repair) {
-    io::write_all(STDOUT_FILENO, name);
+    io::write_all(STANDARD_OUTPUT, name);
     print_repair(repair.outcome, repair.total, repair.change, repair.shared);
 }
 
 // A name, and what Reconstruct answered, with the masses if it was accepted.
 pub fn print_repaired(name: &[u8], answer: Reconstructed, masses: &[u32; 8]) {
-    io::write_all(STDOUT_FILENO, name);
+    io::write_all(STANDARD_OUTPUT, name);
     match answer {
         Reconstructed::Done(repair) => {
             print_accepted(b"done", repair);
@@ -37,7 +36,7 @@ pub fn print_repaired(name: &[u8], answer: Reconstructed, masses: &[u32; 8]) {
 
 // A name, and what a step answered.
 fn print_stepped(name: &[u8], answer: Stepped) {
-    io::write_all(STDOUT_FILENO, name);
+    io::write_all(STANDARD_OUTPUT, name);
     match answer {
         Stepped::Accepted {
             repair,
@@ -52,9 +51,9 @@ fn print_stepped(name: &[u8], answer: Stepped) {
 pub fn show_steps(first: Stepped, second: Stepped, kept: &[u32; 8], others: &[u32; 8]) {
     print_stepped(b"step ", first);
     print_stepped(b" edited ", second);
-    io::write_all(STDOUT_FILENO, b" kept");
+    io::write_all(STANDARD_OUTPUT, b" kept");
     print_each(kept);
-    io::write_all(STDOUT_FILENO, b" edited");
+    io::write_all(STANDARD_OUTPUT, b" edited");
     print_each(others);
     end_line();
 }

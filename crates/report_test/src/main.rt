@@ -4,19 +4,19 @@
 // many shapes in all three outcomes, and files that are refused, by Reconstruct or in reading. Of a file at most 18,433 bytes are read, one
 // more than the largest has. The report is written to a buffer of 16,384 bytes: the listing, or the line of the file's refusal. The last
 // line is a refusal of the operation itself: file 0 once more, with a buffer that is a byte too short.
-// Relies on `report`, which it tests, `text`, `test_support`, and the kit's `io` and `libc`.
+// Relies on `report`, which it tests, `text`, `test_support`, and the kit's `io`.
 #![tactic(auto)]
 
-use libc::STDOUT_FILENO;
-use test_support::files::open_field;
-use test_support::output::show_refusal;
+use std::fs::File;
+use test_support::files::{open_field, read};
+use test_support::output::{STANDARD_OUTPUT, show_refusal};
 use text::Reported;
 
 // Reports a file's bytes in a buffer, and prints the text.
 fn print_report(file: &[u8], out: &mut [u8]) {
     match report::report(file, out) {
         Reported::Text(k) => {
-            io::write_all(STDOUT_FILENO, &out[..k]);
+            io::write_all(STANDARD_OUTPUT, &out[..k]);
         }
         Reported::Refused { number, place } => {
             show_refusal(number, place);
@@ -25,45 +25,42 @@ fn print_report(file: &[u8], out: &mut [u8]) {
 }
 
 // The same for an open file, with a buffer that has room for every text.
-fn print_file(fd: i32) {
+fn print_file(field: Option<File>) {
     let mut file = [0u8; 18433];
     let mut out = [0u8; 16384];
-    let n = io::read_full(fd, &mut file);
+    let n = read(field, &mut file);
     print_report(&file[..n], &mut out);
 }
 
 // The same with a buffer that is a byte too short.
-fn print_short(fd: i32) {
+fn print_short(field: Option<File>) {
     let mut file = [0u8; 18433];
     let mut out = [0u8; 16383];
-    let n = io::read_full(fd, &mut file);
+    let n = read(field, &mut file);
     print_report(&file[..n], &mut out);
 }
 
 // The report of the file with a number. Returns whether there is such a file.
-fn run_file(number: u64) -> bool {
-    let fd = open_field(number);
-    if fd < 0 {
+fn run_file(rt: &HostRuntime, number: u64) -> bool {
+    let field = open_field(rt, number);
+    if field.is_none() {
         return false;
     }
-    print_file(fd);
-    libc::close(fd);
+    print_file(field);
     true
 }
 
 // The reports of all files.
-fn run_all() {
+fn run_all(rt: &HostRuntime) {
     for number in 0..1000 {
-        if !run_file(number) {
+        if !run_file(rt, number) {
             return;
         }
     }
 }
 
 // All reports, and then file 0 with the short buffer.
-fn main() {
-    run_all();
-    let fd = open_field(0);
-    print_short(fd);
-    libc::close(fd);
+fn main(rt: HostRuntime) {
+    run_all(&rt);
+    print_short(open_field(&rt, 0));
 }

@@ -4,14 +4,14 @@
 // highs, weights and masses (below 0 is taken as 0, above 600 as 600) and the total; then come the targets, lows, highs and weights.
 // Before the call each mass is 7. A line has `done` with d, or `refused` with number and place, and then the masses as the call left them:
 // up to 16 of them, or of more their sum and a check number. The cases end with the input, of which at most 65,536 bytes are read.
-// Relies on `split`, which it tests, `caas_spec` for the answer, `test_support`, `numbers`, and the kit's `io` and `libc`.
+// Relies on `split`, which it tests, `caas_spec` for the answer, `test_support`, `numbers`, and the kit's `io`.
 #![tactic(auto)]
 
 ghost use Rattle.std.specs.Prelude.{◌+◌, ◌≤◌, length};
 
 use caas_spec::SplitAnswer;
 use input::Case;
-use test_support::input::{later, skip};
+use test_support::input::{STANDARD_INPUT, later, skip};
 
 mod input;
 mod output;
@@ -68,6 +68,6 @@ fn run_all(text: &[u8]) {
 // Reads the input, and runs its cases.
 fn main() {
     let mut space = io::large_buffer();
-    let n = io::read_full(libc::STDIN_FILENO, &mut space);
+    let n = io::read_full(STANDARD_INPUT, &mut space);
     run_all(&space[..n]);
 }

@@ -2,10 +2,9 @@
 ghost use Rattle.std.specs.Prelude.{◌<◌};
 
 use caas_spec::SplitAnswer;
-use libc::STDOUT_FILENO;
 use numbers::arith::{is_negative, magnitude};
 use numbers::lists::sum_above;
-use test_support::output::{end_line, print_named, print_refusal, print_signed};
+use test_support::output::{STANDARD_OUTPUT, end_line, print_named, print_refusal, print_signed};
 
 // Each number of a list.
 fn print_masses(xs: &[i64]) {
@@ -56,7 +55,7 @@ fn print_check(xs: &[i64]) {
 fn print_answer(answer: SplitAnswer) {
     match answer {
         SplitAnswer::Done { deficit } => {
-            io::write_all(STDOUT_FILENO, b"done");
+            io::write_all(STANDARD_OUTPUT, b"done");
             print_signed(deficit);
         }
         SplitAnswer::Refused { number, place } => print_refusal(number, place),

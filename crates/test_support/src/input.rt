@@ -5,6 +5,9 @@ ghost use Rattle.std.specs.Prelude.{◌≤◌, ◌<◌, length};
 
 use numbers::arith::{difference, signed, smaller};
 
+// The descriptor of standard input.
+pub const STANDARD_INPUT: i32 = 0;
+
 // An unsigned number, and the position behind it.
 #[derive(Drop)]
 pub struct Number {

@@ -1,8 +1,10 @@
 // The parts that lines of text are printed by.
 ghost use Rattle.std.specs.Prelude.{◌<◌, ◌≤◌, length};
 
-use libc::STDOUT_FILENO;
 use numbers::arith::{is_negative, magnitude, stored_index};
+
+// The descriptor of standard output.
+pub const STANDARD_OUTPUT: i32 = 1;
 
 // A number of 32 bits as one of 64.
 pub fn wide(x: u32) -> u64
@@ -14,32 +16,32 @@ pub fn wide(x: u32) -> u64
 // A sign, if the number is below 0.
 fn print_sign(x: i64) {
     if is_negative(x) {
-        io::write_all(STDOUT_FILENO, b"-");
+        io::write_all(STANDARD_OUTPUT, b"-");
     }
 }
 
 // A space and a number.
 pub fn print_number(x: u64) {
-    io::write_all(STDOUT_FILENO, b" ");
-    io::print_decimal(STDOUT_FILENO, x);
+    io::write_all(STANDARD_OUTPUT, b" ");
+    io::print_decimal(STANDARD_OUTPUT, x);
 }
 
 // A space and a signed number.
 pub fn print_signed(x: i64) {
-    io::write_all(STDOUT_FILENO, b" ");
+    io::write_all(STANDARD_OUTPUT, b" ");
     print_sign(x);
-    io::print_decimal(STDOUT_FILENO, magnitude(x));
+    io::print_decimal(STANDARD_OUTPUT, magnitude(x));
 }
 
 // A name, a space and a number.
 pub fn print_named(name: &[u8], x: u64) {
-    io::write_all(STDOUT_FILENO, name);
+    io::write_all(STANDARD_OUTPUT, name);
     print_number(x);
 }
 
 // The end of a line.
 pub fn end_line() {
-    io::write_all(STDOUT_FILENO, b"\n");
+    io::write_all(STANDARD_OUTPUT, b"\n");
 }
 
 // A refusal's number and place.
@@ -56,12 +58,12 @@ pub fn show_refusal(number: u32, place: u32) {
 
 // The line of a case of no known kind.
 pub fn show_no_kind() {
-    io::write_all(STDOUT_FILENO, b"no such kind\n");
+    io::write_all(STANDARD_OUTPUT, b"no such kind\n");
 }
 
 // A line that says that a file is missing.
 pub fn show_no_file() {
-    io::write_all(STDOUT_FILENO, b"no such file\n");
+    io::write_all(STANDARD_OUTPUT, b"no such file\n");
 }
 
 // The sum of masses.
