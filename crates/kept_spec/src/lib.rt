@@ -4,7 +4,7 @@
 #![tactic(auto)]
 
 // What stands beside the kept masses, 02's record: 01's total standing, and the scale that it was opened at.
-#[derive(Drop)]
+#[derive(Clone, Copy)]
 pub struct Balance {
     pub total: u32,
     pub scale: u32,

@@ -2,16 +2,12 @@
 use mir.Syntax.{w64}
 use mir.Val.{to_z, of_z}
 use Rattle.numbers.proofs.SignedLaws.{signed, about, plain, le_parts}
-use Rattle.kept_checks.proofs.totals.whole.Statement.{statement}
-use Rattle.kept_checks.proofs.totals.whole.Tie as tie
+use Rattle.kept_checks.proofs.totals.whole.Goals as goal
 
-cast-result : tie.Need-overflow-cast-result
-cast-result c = let z = to_z w64 (of_z w64 c.args.z) in
+pub overflow_cast-result : goal.overflow_cast-result
+overflow_cast-result c = let z = to_z w64 (of_z w64 c.args.z) in
     omega (signed, about z, plain c.ranges.z, le_parts c.requires.0, le_parts c.requires.1)
 
-returns : tie.Need-returns
+pub returns : goal.returns
 returns c = let z = to_z w64 (of_z w64 c.args.z) in
     omega (signed, about z, plain c.ranges.z, le_parts c.requires.0)
-
-pub whole-spec : {M : Type 1} → statement M
-whole-spec = tie.close (tie.spec cast-result returns)
