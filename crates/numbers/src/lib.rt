@@ -4,7 +4,7 @@
 #![tactic(auto)]
 
 // What a check finds: it passes, or it fails with 01's number and place.
-#[derive(Drop)]
+#[derive(Clone, Copy)]
 pub enum Checked {
     Pass,
     Fail { number: u32, place: u32 },

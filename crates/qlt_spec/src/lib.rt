@@ -11,7 +11,7 @@ pub const MAX_SCRATCH: usize = 4096;
 
 // What an accepted field gives beside its masses, in 01's terms: the outcome, M and the change; and the sum of the sizes of d over all inner
 // nodes, which ticket 2 of 02 calls shared out.
-#[derive(Drop)]
+#[derive(Clone, Copy)]
 pub struct Repair {
     pub outcome: u32,
     pub total: u32,
