@@ -4,7 +4,7 @@
 #![tactic(auto)]
 
 // What a family holds of a member: whether it is open, and its total, 0 for one that is not.
-#[derive(Drop)]
+#[derive(Clone, Copy)]
 pub struct Member {
     pub opened: bool,
     pub total: u32,
@@ -12,7 +12,7 @@ pub struct Member {
 
 // A family by value: the cap on the sum of the totals, the scale and the number of cells of every member, the members, who of them waits (bit i
 // is member i's), and the member with which the search for the next one begins.
-#[derive(Drop)]
+#[derive(Clone, Copy)]
 pub struct Family {
     pub cap: u64,
     pub scale: u32,

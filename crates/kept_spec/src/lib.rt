@@ -19,7 +19,7 @@ pub enum Opened {
 
 // Step's answer: the masses have replaced the kept ones and have this balance, and the book, with a record more, has this length in bytes; or
 // the call is refused.
-#[derive(Drop)]
+#[derive(Clone, Copy)]
 pub enum Stepped {
     Accepted {
         repair: qlt_spec::Repair,
