@@ -29,7 +29,7 @@ mod output;
 
 // The generator's state, the balance and the book's length standing, the calls accepted and refused so far, and the check number of what was
 // told.
-#[derive(Drop)]
+#[derive(Clone, Copy)]
 pub struct Run {
     pub state: u32,
     pub balance: Balance,

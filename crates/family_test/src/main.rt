@@ -25,7 +25,7 @@ mod waits;
 
 // The generator's state, the family standing, the calls accepted and refused so far, the check number of what was told, and what the accepted
 // steps have shared out.
-#[derive(Drop)]
+#[derive(Clone, Copy)]
 pub struct Run {
     pub state: u32,
     pub family: Family,

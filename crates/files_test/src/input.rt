@@ -14,7 +14,7 @@ pub struct Length {
 }
 
 // The lengths of the lists of a field, and the position behind them.
-#[derive(Drop)]
+#[derive(Clone, Copy)]
 pub struct Lengths {
     pub targets: usize,
     pub lows: usize,
@@ -27,7 +27,7 @@ pub struct Lengths {
 }
 
 // What gives a list: the first number, the step from each to the next, and the modulus.
-#[derive(Drop)]
+#[derive(Clone, Copy)]
 pub struct Rule {
     pub first: u64,
     pub step: u64,
@@ -46,7 +46,7 @@ pub struct WriteCase {
 }
 
 // The same for Write a field.
-#[derive(Drop)]
+#[derive(Clone, Copy)]
 pub struct FieldCase {
     pub cells: usize,
     pub nodes: usize,

@@ -20,7 +20,7 @@ mod output;
 
 // The generator's state, the calls accepted and refused so far, those refused with 17 among them, the balance standing, the length of the book,
 // and what the accepted calls have shared out.
-#[derive(Drop)]
+#[derive(Clone, Copy)]
 pub struct Run {
     pub state: u32,
     pub accepted: u32,

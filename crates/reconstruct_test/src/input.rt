@@ -15,7 +15,7 @@ struct End {
 
 // What stands before the lists of a case, and the position behind it. Of the lows, highs, safe lows, safe highs, weights and parents,
 // which stand one behind the other, it has where each ends; of the other lists the length.
-#[derive(Drop)]
+#[derive(Clone, Copy)]
 pub struct Case {
     pub targets: usize,
     pub lows: usize,

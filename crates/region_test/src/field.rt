@@ -4,7 +4,7 @@ ghost use Rattle.std.specs.Prelude.{◌<◌};
 use test_support::fields::fill;
 
 // The six lists of a field.
-#[derive(Drop)]
+#[derive(Clone, Copy)]
 pub struct Field {
     pub targets: [i32; 8],
     pub lows: [u32; 8],

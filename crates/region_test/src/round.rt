@@ -9,7 +9,7 @@ use test_support::fields::{fill_parents, nodes};
 
 // The generator's state behind the draws, the tree's kind and parents, the source, the node, the cells below it, the field, the edited
 // one, and the one with a changed sum.
-#[derive(Drop)]
+#[derive(Clone, Copy)]
 pub struct Round {
     pub state: u32,
     pub kind: u32,

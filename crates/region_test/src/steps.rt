@@ -9,7 +9,7 @@ use test_support::books::start;
 use test_support::fields::nodes;
 
 // What stands beside kept masses: their balance, and the length of their book.
-#[derive(Drop)]
+#[derive(Clone, Copy)]
 pub struct Standing {
     pub balance: Balance,
     pub length: usize,
