@@ -1,6 +1,6 @@
 -- The three roundings, each from what `product` gives: the sign, the whole part cut at 2 ^ 52, and what is left. Assumes nothing.
 use mathlib.Core.Path.{◌≡◌, refl, sym, ap, ◌∙◌, subst}
-use mathlib.Core.Bool.{Bool, true, false, not, cond}
+use mathlib.Core.Bool.{Bool, true, false, cond}
 use Prim.Native.Nat.{ℕ, zero, suc, ◌+◌, ◌-◌, ◌*◌, ◌/◌, ◌%◌, ◌^◌, ◌≤◌, ◌<◌, min, compare, Ordering}
 use mir.Syntax.{w32}
 use mir.Val.{SFits, to_z, of_z}

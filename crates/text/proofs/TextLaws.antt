@@ -10,7 +10,7 @@ use native.Mathlib.Decide.{dec_lt}
 use native.Mathlib.Omega.{arith}
 use borrow.Author.Tests.{lt-ltb, le-ltb, ltb-true}
 use lib.IntN.{ℤ, pos, negsuc, nat_abs}
-use lib.ListN.{length, set, take, drop, length-append, get_or-append}
+use lib.ListN.{length, set, take, length-append, get_or-append}
 use lib.Seq.{drop-drop, get_or-append_seam}
 use lib.Signed.{lt_z}
 use mir.Syntax.{w64}

@@ -9,10 +9,8 @@ use Rattle.numbers.specs.declared.Checked.{Checked}
 use Rattle.numbers.specs.declared.Checked.TheVariants.{Pass}
 use Rattle.numbers.specs.Checks.{both, answered, after}
 use Rattle.numbers.proofs.CheckLaws.{on, stop, last}
-use Rattle.blocks.specs.Words.{Bytes}
 use Rattle.files_spec.specs.ReadAnswer.{answer_masses, answer_head_verdict, answer_read_verdict, AnswerHeadFits, answer_of, answer_read_tells}
 use Rattle.files_spec.proofs.ReadAnswerLaws.{answer-head-accepts, answer-head-measured}
-use borrow.Author.Rules.{rules}
 use Rattle.answer_file.proofs.read_answer.Goals as goal
 
 -- past a head that passes

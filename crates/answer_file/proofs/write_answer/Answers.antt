@@ -1,5 +1,4 @@
 -- `answer_file::write_answer` meets its contract: the verdict is that of the call, and decides what it leaves and answers.
-use borrow.Author.Rules.{rules}
 use Rattle.answer_file.proofs.write_answer.Goals as goal
 
 pub write_verdict-verdict-requires : goal.write_verdict-verdict-requires

@@ -2,11 +2,8 @@
 -- makes the argument too large (`argument-strange`).
 use mathlib.Core.Path.{sym, ◌∙◌}
 use mathlib.Core.Logic.{inl, inr}
-use Prim.Native.Nat.{◌-◌}
 use native.Mathlib.Omega.{arith}
-use borrow.Author.Rules.{rules}
-use lib.ListN.{length}
-use Rattle.arguments.proofs.ArgumentLaws.{ReadTo, read-start, read-turn, read-end, argument-other, argument-strange}
+use Rattle.arguments.proofs.ArgumentLaws.{read-start, read-turn, read-end, argument-other, argument-strange}
 use Rattle.arguments.proofs.number_of.Goals as goal
 
 pub returns-then-text-eq0 : goal.returns-then-text-eq0

@@ -1,12 +1,8 @@
 -- `arguments::number_of` meets its contract: `ReadTo` holds from turn to turn (`read-start`, `read-turn`), and a byte that is no digit
 -- makes the argument too large (`argument-strange`).
-use mathlib.Core.Path.{sym, ◌∙◌}
-use mathlib.Core.Logic.{inl, inr}
 use Prim.Native.Nat.{◌-◌}
-use native.Mathlib.Omega.{arith}
-use borrow.Author.Rules.{rules}
 use lib.ListN.{length}
-use Rattle.arguments.proofs.ArgumentLaws.{ReadTo, read-start, read-turn, read-end, argument-other, argument-strange}
+use Rattle.arguments.proofs.ArgumentLaws.{ReadTo}
 use Rattle.arguments.proofs.number_of.Given as goal
 
 abbrev pub invariant-loop-i : goal.invariant-loop-i

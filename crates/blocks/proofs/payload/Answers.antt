@@ -1,5 +1,5 @@
 -- `blocks::payload` meets its contract: the test is whether the file has the block, and the part cut is its payload, where it lies.
-use Rattle.std.proofs.Common.{◌≡◌, ◌*◌, ◌<◌, ◌≤◌, true, length, sym, refl, ◌∙◌, arith, rules}
+use Rattle.std.proofs.Common.{◌≡◌, ◌*◌, ◌<◌, ◌≤◌, true, length, sym, refl, ◌∙◌, arith}
 use Rattle.blocks.specs.Blocks.{has_block}
 use Rattle.blocks.proofs.BlockLaws.{has_block-is, has_block-means, payload-none, payload-part}
 use Rattle.blocks.proofs.payload.Goals as goal

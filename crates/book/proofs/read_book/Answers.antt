@@ -7,7 +7,6 @@ use Rattle.blocks.specs.Words.{Bytes}
 use Rattle.book_spec.specs.Book.{report_of, book_of}
 use Rattle.book_spec.specs.ReadBook.{book_verdict, book_tells}
 use Rattle.book_spec.proofs.ReadLaws.{book-accepts}
-use borrow.Author.Rules.{rules}
 use Rattle.book.proofs.read_book.Goals as goal
 use Rattle.book.proofs.read_book.Lts as lts
 use Rattle.book.proofs.read_book.Tie as tie

@@ -9,7 +9,6 @@ use Rattle.blocks.specs.Words.{Bytes}
 use Rattle.book_spec.specs.Book.{book, book_bytes}
 use Rattle.book_spec.specs.StartBook.{book_start_verdict, book_start_tells}
 use Rattle.book_spec.proofs.StartLaws.{book-start-accepts}
-use borrow.Author.Rules.{rules}
 use Rattle.book.proofs.start_book.Goals as goal
 use Rattle.book.proofs.start_book.Lts as lts
 use Rattle.book.proofs.start_book.Tie as tie

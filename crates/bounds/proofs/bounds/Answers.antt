@@ -1,6 +1,5 @@
 -- `bounds::bounds` meets its contract: the work goes by the verdict.
 use Rattle.bounds_spec.specs.Bounds.{bounds_verdict}
-use borrow.Author.Rules.{rules}
 use Rattle.bounds.proofs.bounds.Goals as goal
 
 pub bounds_by-requires : goal.bounds_by-requires

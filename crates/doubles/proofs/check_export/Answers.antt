@@ -3,7 +3,6 @@ use mathlib.Core.Path.{sym, ◌∙◌, ap₂}
 use Rattle.numbers.specs.Checks.{both}
 use Rattle.numbers.proofs.CheckLaws.{both-pass}
 use Rattle.doubles_spec.specs.Export.{export_verdict}
-use borrow.Author.Rules.{rules}
 use Rattle.doubles.proofs.check_export.Goals as goal
 
 pub returns : goal.returns

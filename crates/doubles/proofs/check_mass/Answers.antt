@@ -1,6 +1,5 @@
 -- `doubles::check_mass` meets its contract: its test is the definition's.
 use Rattle.doubles_spec.specs.Export.{check_mass}
-use borrow.Author.Rules.{rules}
 use Rattle.doubles.proofs.check_mass.Goals as goal
 
 pub returns : goal.returns

@@ -1,13 +1,11 @@
 -- `doubles::export` meets its contract: by the verdict, and the product with the power of two is the double.
 use mathlib.Core.Path.{◌≡◌, sym, ◌∙◌}
 use native.Mathlib.Omega.{arith}
-use borrow.Author.Rules.{rules}
 use lib.IntN.{pos}
 use lib.Ieee.{binary64, mul, of_int}
-use Rattle.numbers.specs.declared.Checked.TheVariants.{Pass}
 use Rattle.numbers.proofs.CheckLaws.{accepted-answered, refused-answered}
 use Rattle.doubles_spec.specs.declared.Exported.TheVariants.{Double, Refused}
-use Rattle.doubles_spec.specs.Export.{export_verdict, export_double, export_tells}
+use Rattle.doubles_spec.specs.Export.{export_double, export_tells}
 use Rattle.doubles_spec.proofs.Powers.{product_is}
 use Rattle.doubles_spec.proofs.ExportLaws.{export-accepts, export-meets}
 use Rattle.doubles.proofs.export.Goals as goal

@@ -1,11 +1,8 @@
 -- `doubles::export_single` meets its contract: by the verdict, and `single` gives the value.
-use mathlib.Core.Path.{◌≡◌, sym, ◌∙◌}
+use mathlib.Core.Path.{sym, ◌∙◌}
 use native.Mathlib.Omega.{arith}
-use borrow.Author.Rules.{rules}
-use Rattle.numbers.specs.declared.Checked.TheVariants.{Pass}
 use Rattle.numbers.proofs.CheckLaws.{accepted-answered, refused-answered}
 use Rattle.doubles_spec.specs.declared.SingleExported.TheVariants.{Single, Refused}
-use Rattle.doubles_spec.specs.Export.{export_verdict}
 use Rattle.doubles_spec.specs.ExportSingle.{export_single, single_tells}
 use Rattle.doubles_spec.proofs.ExportLaws.{export-accepts}
 use Rattle.doubles_spec.proofs.SingleLaws.{single-meets}

@@ -4,14 +4,11 @@ use Prim.Native.Nat.{ℕ}
 use native.Mathlib.Omega.{arith}
 use mir.Syntax.{w32}
 use mir.ValLaws.{to_z-of_z}
-use borrow.Author.Rules.{rules}
 use borrow.Author.Tests.{le-leb, lt-leb}
 use Rattle.doubles_spec.specs.Import.{ImportContract}
 use Rattle.doubles_spec.specs.Forms.{target_field, low_field, high_field, import_fields, import_form}
 use Rattle.doubles_spec.specs.declared.CellDoubles.{CellDoubles}
 use Rattle.doubles_spec.specs.declared.Imported.{Imported}
-use Rattle.doubles_spec.specs.declared.TargetField.{TargetField}
-use Rattle.doubles_spec.specs.declared.BoundField.{BoundField}
 use Rattle.doubles_spec.proofs.ImportLaws.{import-meets}
 use Rattle.doubles.proofs.import.Goals as goal
 

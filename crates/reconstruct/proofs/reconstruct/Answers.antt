@@ -1,5 +1,4 @@
 -- `reconstruct::reconstruct` meets its contract: what it leaves and tells go by the verdict.
-use borrow.Author.Rules.{rules}
 use Rattle.reconstruct.proofs.reconstruct.Goals as goal
 
 pub reconstruct_by-requires : goal.reconstruct_by-requires

@@ -1,12 +1,10 @@
 -- `split::split` meets its contract: what it leaves and answers goes by the verdict.
-use mathlib.Core.Path.{◌≡◌, subst}
+use mathlib.Core.Path.{subst}
 use native.Mathlib.Omega.{arith}
 use lib.IntN.{ℤ}
 use mir.Syntax.{w64}
-use mir.Val.{to_z, of_z}
 use mir.ValLaws.{to_z-of_z}
-use Rattle.caas_spec.specs.Operation.{SplitCall, split_call, SplitContract}
-use borrow.Author.Rules.{rules}
+use Rattle.caas_spec.specs.Operation.{split_call, SplitContract}
 use Rattle.split.proofs.split.Goals as goal
 
 pub split_by-requires : goal.split_by-requires

@@ -10,7 +10,6 @@ use Rattle.numbers.specs.Checks.{unless}
 use Rattle.numbers.proofs.PartLaws.{length_part}
 use Rattle.files_spec.specs.WriteAnswer.{check_masses}
 use Rattle.files_spec.proofs.WriteLaws.{sum-part}
-use borrow.Author.Rules.{rules}
 use Rattle.answer_file.proofs.verdict.check_masses.Goals as goal
 
 pub sum_of-requires : goal.sum_of-requires

@@ -4,7 +4,6 @@ use mathlib.Core.Bool.{◌&&◌}
 use lib.Dec.{leb}
 use Rattle.numbers.specs.Checks.{unless}
 use Rattle.files_spec.specs.WriteAnswer.{check_space}
-use borrow.Author.Rules.{rules}
 use Rattle.answer_file.proofs.verdict.check_space.Goals as goal
 
 pub returns : goal.returns

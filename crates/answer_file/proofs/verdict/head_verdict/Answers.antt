@@ -10,7 +10,6 @@ use Rattle.numbers.proofs.CheckLaws.{on, stop, first-append}
 use Rattle.blocks.specs.Files.{check_file_length}
 use Rattle.blocks.proofs.FileLaws.{length-decides}
 use Rattle.files_spec.specs.ReadAnswer.{max_answer_file, answer_block_checks, answer_size_checks, answer_head_verdict}
-use borrow.Author.Rules.{rules}
 use Rattle.answer_file.proofs.verdict.head_verdict.Goals as goal
 
 one_block : (file : List ℕ) → check_file_length max_answer_file (length file) ≡ Pass → 512 ≤ length file

@@ -3,7 +3,6 @@ use mathlib.Core.Path.{sym, ap, ◌∙◌}
 use native.Mathlib.Omega.{arith}
 use Rattle.block_tables.specs.Tables.{check_table, list_table}
 use Rattle.files_spec.proofs.ReadAnswerLaws.{has-masses, answer-later-table}
-use borrow.Author.Rules.{rules}
 use Rattle.answer_file.proofs.verdict.later_verdict.Goals as goal
 
 pub payload_word-requires : goal.payload_word-requires

@@ -6,7 +6,6 @@ use Rattle.numbers.specs.Checks.{both, check_count, check_long}
 use Rattle.numbers.proofs.CheckLaws.{last}
 use Rattle.blocks.specs.Files.{check_block_count}
 use Rattle.files_spec.specs.AnswerFile.{answer_blocks}
-use borrow.Author.Rules.{rules}
 use Rattle.answer_file.proofs.verdict.sizes_verdict.Goals as goal
 
 pub payload_word-n-requires : goal.payload_word-n-requires

@@ -8,7 +8,6 @@ use Rattle.files_spec.specs.AnswerFile.{mass_word}
 use Rattle.files_spec.specs.WriteAnswer.{check_masses}
 use Rattle.files_spec.specs.ReadAnswer.{answer_sum_verdict}
 use Rattle.files_spec.proofs.ReadAnswerLaws.{has-masses, masses-at}
-use borrow.Author.Rules.{rules}
 use Rattle.answer_file.proofs.verdict.sum_verdict.Goals as goal
 
 pub payload_word-requires : goal.payload_word-requires

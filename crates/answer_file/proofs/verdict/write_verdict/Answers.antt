@@ -4,7 +4,6 @@ use Rattle.numbers.specs.Checks.{both}
 use Rattle.numbers.proofs.CheckLaws.{on, stop, both-pass, count-decides}
 use Rattle.files_spec.specs.WriteAnswer.{write_verdict}
 use Rattle.files_spec.proofs.WriteLaws.{space-decides}
-use borrow.Author.Rules.{rules}
 use Rattle.answer_file.proofs.verdict.write_verdict.Goals as goal
 
 pub check_count-count-requires : goal.check_count-count-requires

@@ -6,7 +6,6 @@ use Rattle.numbers.specs.Lists.{at, written}
 use Rattle.block_tables.specs.Tables.{table_bytes, list_table}
 use Rattle.files_spec.specs.AnswerFile.{mass_blocks}
 use Rattle.files_spec.proofs.WriteLaws.{answer-written}
-use borrow.Author.Rules.{rules}
 use Rattle.answer_file.proofs.work.put_answer.Goals as goal
 
 pub put_head-requires : goal.put_head-requires

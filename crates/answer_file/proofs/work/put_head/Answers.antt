@@ -3,7 +3,6 @@ use native.Mathlib.Omega.{arith}
 use Rattle.numbers.proofs.PartLaws.{length_part, put_back}
 use Rattle.blocks.proofs.BlockLaws.{length-block_bytes}
 use Rattle.files_spec.specs.AnswerFile.{answer_head}
-use borrow.Author.Rules.{rules}
 use Rattle.answer_file.proofs.work.put_head.Goals as goal
 
 pub fill_block-requires : goal.fill_block-requires

@@ -6,7 +6,6 @@ use Rattle.numbers.proofs.CheckLaws.{after-pass, after-fail}
 use Rattle.files_spec.specs.AnswerFile.{mass_word}
 use Rattle.files_spec.specs.ReadAnswer.{answer_masses}
 use Rattle.files_spec.proofs.ReadAnswerLaws.{has-masses}
-use borrow.Author.Rules.{rules}
 use Rattle.answer_file.proofs.work.read_by.Goals as goal
 
 pub payload_word-requires : goal.payload_word-requires

@@ -1,6 +1,5 @@
 -- `answer_file::work::told_repair` meets its contract: the outcome, the total, and the two words of the change and of the sum shared out.
 use native.Mathlib.Omega.{arith}
-use borrow.Author.Rules.{rules}
 use Rattle.answer_file.proofs.work.told_repair.Goals as goal
 
 pub payload_word-change_low-requires : goal.payload_word-change_low-requires

@@ -6,11 +6,10 @@ use Rattle.numbers.specs.declared.Checked.{Checked}
 use Rattle.numbers.specs.declared.Checked.TheVariants.{Pass}
 use Rattle.numbers.specs.Lists.{written}
 use Rattle.numbers.specs.Checks.{accepted, answered, after}
-use Rattle.files_spec.specs.AnswerFile.{answer_blocks, answer_bytes, AnswerTyped}
+use Rattle.files_spec.specs.AnswerFile.{answer_blocks, answer_bytes}
 use Rattle.files_spec.specs.WriteAnswer.{WriteCall, write_call, write_verdict, WriteFits, write_tells}
 use Rattle.files_spec.proofs.WriteLaws.{write-accepts}
 use native.Mathlib.Omega.{arith}
-use borrow.Author.Rules.{rules}
 use Rattle.answer_file.proofs.work.write_by.Goals as goal
 
 -- a call whose verdict passes has room

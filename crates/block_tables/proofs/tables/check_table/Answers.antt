@@ -1,7 +1,7 @@
 -- `block_tables::tables::check_table` meets its contract: the verdict is that of the blocks from b on.
-use mathlib.Core.Path.{◌≡◌, sym, ap, ◌∙◌}
+use mathlib.Core.Path.{sym, ap, ◌∙◌}
 use mathlib.Core.List.{List}
-use Prim.Native.Nat.{ℕ, ◌-◌, ◌≤◌}
+use Prim.Native.Nat.{ℕ, ◌-◌}
 use native.Mathlib.Omega.{arith}
 use Rattle.numbers.specs.declared.Checked.{Checked}
 use Rattle.numbers.specs.Checks.{each_from}
@@ -10,7 +10,6 @@ use Rattle.blocks.specs.Blocks.{check_block}
 use Rattle.block_tables.specs.declared.tables.Table.{Table}
 use Rattle.block_tables.specs.Tables.{table_used, check_table}
 use Rattle.block_tables.proofs.TableLaws.{block-some, used-same}
-use borrow.Author.Rules.{rules}
 use Rattle.block_tables.proofs.tables.check_table.Goals as goal
 
 -- the check of each block

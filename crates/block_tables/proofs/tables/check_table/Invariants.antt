@@ -1,16 +1,9 @@
 -- `block_tables::tables::check_table` meets its contract: the verdict is that of the blocks from b on.
-use mathlib.Core.Path.{◌≡◌, sym, ap, ◌∙◌}
-use mathlib.Core.List.{List}
-use Prim.Native.Nat.{ℕ, ◌-◌, ◌≤◌}
-use native.Mathlib.Omega.{arith}
-use Rattle.numbers.specs.declared.Checked.{Checked}
+use mathlib.Core.Path.{◌≡◌}
+use Prim.Native.Nat.{◌-◌, ◌≤◌}
 use Rattle.numbers.specs.Checks.{each_from}
-use Rattle.numbers.proofs.CheckLaws.{each_on, each-here, each_none}
 use Rattle.blocks.specs.Blocks.{check_block}
-use Rattle.block_tables.specs.declared.tables.Table.{Table}
 use Rattle.block_tables.specs.Tables.{table_used, check_table}
-use Rattle.block_tables.proofs.TableLaws.{block-some, used-same}
-use borrow.Author.Rules.{rules}
 use Rattle.block_tables.proofs.tables.check_table.Given as goal
 
 abbrev pub invariant-loop-b : goal.invariant-loop-b

@@ -1,10 +1,9 @@
 -- `block_tables::tables::put_list` meets its contract: the blocks before k stand in the buffer, the rest is as it was.
-use mathlib.Core.Path.{◌≡◌, refl, ap, ◌∙◌}
+use mathlib.Core.Path.{refl, ap, ◌∙◌}
 use mathlib.Core.List.{List}
-use Prim.Native.Nat.{ℕ, ◌+◌, ◌*◌, ◌-◌, ◌≤◌}
+use Prim.Native.Nat.{ℕ, ◌+◌, ◌*◌, ◌-◌}
 use native.Mathlib.Nat.{le_antisymm}
 use native.Mathlib.Omega.{arith}
-use lib.ListN.{length}
 use Rattle.numbers.specs.Lists.{at, written}
 use Rattle.blocks.specs.Blocks.{block_bytes}
 use Rattle.block_tables.specs.Tables.{table_bytes, list_table, list_block}

@@ -1,14 +1,9 @@
 -- `block_tables::tables::put_list` meets its contract: the blocks before k stand in the buffer, the rest is as it was.
-use mathlib.Core.Path.{◌≡◌, refl, ap, ◌∙◌}
-use mathlib.Core.List.{List}
-use Prim.Native.Nat.{ℕ, ◌+◌, ◌*◌, ◌-◌, ◌≤◌}
-use native.Mathlib.Nat.{le_antisymm}
-use native.Mathlib.Omega.{arith}
+use mathlib.Core.Path.{◌≡◌}
+use Prim.Native.Nat.{◌*◌, ◌-◌, ◌≤◌}
 use lib.ListN.{length}
 use Rattle.numbers.specs.Lists.{at, written}
-use Rattle.blocks.specs.Blocks.{block_bytes}
-use Rattle.block_tables.specs.Tables.{table_bytes, list_table, list_block}
-use Rattle.block_tables.proofs.TableLaws.{list-fits, block-some, table_none, table-next}
+use Rattle.block_tables.specs.Tables.{table_bytes, list_table}
 use Rattle.block_tables.proofs.tables.put_list.Given as goal
 
 abbrev pub invariant-loop-k : goal.invariant-loop-k

@@ -8,7 +8,6 @@ use Rattle.blocks.specs.Blocks.{block_bytes}
 use Rattle.block_tables.specs.Tables.{list_block}
 use Rattle.blocks.proofs.BlockLaws.{length-block_bytes}
 use Rattle.block_tables.proofs.TableLaws.{list-part}
-use borrow.Author.Rules.{rules}
 use Rattle.block_tables.proofs.tables.put_list_block.Goals as goal
 
 pub returns : goal.returns

@@ -1,9 +1,8 @@
 -- `block_tables::tables::read_column` meets its contract: the entries before the index are the records' words, the rest is as it was.
-use mathlib.Core.Path.{◌≡◌, refl, ap, ◌∙◌}
-use Prim.Native.Nat.{◌-◌, ◌≤◌}
+use mathlib.Core.Path.{refl, ap, ◌∙◌}
 use native.Mathlib.Nat.{le_antisymm}
 use native.Mathlib.Omega.{arith}
-use lib.ListN.{length, length-set}
+use lib.ListN.{length-set}
 use Rattle.numbers.specs.Lists.{list_to, written}
 use Rattle.numbers.proofs.ListLaws.{written_none, next-entry}
 use Rattle.block_tables.specs.Tables.{table_word}

@@ -1,13 +1,9 @@
 -- `block_tables::tables::read_column` meets its contract: the entries before the index are the records' words, the rest is as it was.
-use mathlib.Core.Path.{◌≡◌, refl, ap, ◌∙◌}
+use mathlib.Core.Path.{◌≡◌}
 use Prim.Native.Nat.{◌-◌, ◌≤◌}
-use native.Mathlib.Nat.{le_antisymm}
-use native.Mathlib.Omega.{arith}
-use lib.ListN.{length, length-set}
+use lib.ListN.{length}
 use Rattle.numbers.specs.Lists.{list_to, written}
-use Rattle.numbers.proofs.ListLaws.{written_none, next-entry}
 use Rattle.block_tables.specs.Tables.{table_word}
-use Rattle.block_tables.proofs.TableLaws.{table-room}
 use Rattle.block_tables.proofs.tables.read_column.Given as goal
 
 abbrev pub invariant-loop-i : goal.invariant-loop-i

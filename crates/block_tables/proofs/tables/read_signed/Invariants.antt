@@ -1,18 +1,10 @@
 -- `block_tables::tables::read_signed` meets its contract: the entries before the index are the records' numbers, the rest is as it was.
-use mathlib.Core.Path.{◌≡◌, refl, ap, ◌∙◌}
-use Prim.Native.Nat.{ℕ, ◌-◌, ◌≤◌}
-use native.Mathlib.Nat.{le_antisymm}
-use native.Mathlib.Omega.{arith}
-use lib.IntN.{ℤ}
-use lib.ListN.{length, length-set}
-use mir.Syntax.{w32}
-use mir.Val.{to_z, of_z}
-use mir.ValLaws.{to_z-of_z}
+use mathlib.Core.Path.{◌≡◌}
+use Prim.Native.Nat.{◌-◌, ◌≤◌}
+use lib.ListN.{length}
 use Rattle.numbers.specs.Lists.{list_to, written}
-use Rattle.numbers.proofs.ListLaws.{written_none, next-entry}
 use Rattle.blocks.specs.Words.{word_signed}
 use Rattle.block_tables.specs.Tables.{table_word}
-use Rattle.block_tables.proofs.TableLaws.{table-room}
 use Rattle.block_tables.proofs.tables.read_signed.Given as goal
 
 abbrev pub invariant-loop-i : goal.invariant-loop-i

@@ -1,16 +1,10 @@
 -- `block_tables::tables::signed_words` meets its contract: the entries before the index are the words of the numbers, which were read and so fit; the
 -- rest is as it was.
-use mathlib.Core.Path.{◌≡◌, refl, ap, ◌∙◌}
+use mathlib.Core.Path.{◌≡◌}
 use Prim.Native.Nat.{ℕ, ◌-◌, ◌^◌, ◌≤◌, ◌<◌}
-use native.Mathlib.Nat.{le_antisymm}
-use native.Mathlib.Omega.{arith}
-use borrow.Author.Count.{below_more}
-use lib.ListN.{length, length-set}
+use lib.ListN.{length}
 use lib.Signed.{mag}
-use mir.Syntax.{w32}
-use mir.ValLaws.{to_z-of_z}
 use Rattle.numbers.specs.Lists.{at_ℤ, list_to, written}
-use Rattle.numbers.proofs.ListLaws.{written_none, next-entry}
 use Rattle.blocks.specs.Words.{signed_word}
 use Rattle.block_tables.proofs.tables.signed_words.Given as goal
 

@@ -1,6 +1,5 @@
 -- `block_tables::tables::sum_column` meets its contract: the sum so far is that of the records passed, and less than 2 ^ 32 for each of them.
 use mathlib.Core.Path.{◌≡◌}
-use Prim.Native.Nat.{◌*◌, ◌-◌, ◌≤◌}
 use native.Mathlib.Omega.{arith}
 use native.Mathlib.Numerals.{add-one}
 use Rattle.numbers.specs.Sums.{ℕ_adds, sum_to}

@@ -1,12 +1,8 @@
 -- `block_tables::tables::sum_column` meets its contract: the sum so far is that of the records passed, and less than 2 ^ 32 for each of them.
 use mathlib.Core.Path.{◌≡◌}
 use Prim.Native.Nat.{◌*◌, ◌-◌, ◌≤◌}
-use native.Mathlib.Omega.{arith}
-use native.Mathlib.Numerals.{add-one}
 use Rattle.numbers.specs.Sums.{ℕ_adds, sum_to}
-use Rattle.numbers.proofs.SumLaws.{sum_to-next}
 use Rattle.block_tables.specs.Tables.{table_word}
-use Rattle.block_tables.proofs.TableLaws.{table-room}
 use Rattle.block_tables.proofs.tables.sum_column.Given as goal
 
 abbrev pub invariant-loop-i : goal.invariant-loop-i

@@ -4,7 +4,6 @@ use Prim.Native.Nat.{◌*◌, ◌≤◌}
 use native.Mathlib.Omega.{arith}
 use Rattle.block_tables.specs.Tables.{table_used}
 use Rattle.block_tables.proofs.TableLaws.{table_used-small}
-use borrow.Author.Rules.{rules}
 use Rattle.block_tables.proofs.tables.table_used.Goals as goal
 use Rattle.block_tables.proofs.tables.table_used.Lts as lts
 use Rattle.block_tables.proofs.tables.table_used.Tie as tie

@@ -1,9 +1,7 @@
 -- `block_tables::tables::table_word` meets its contract: the word lies in the payload of its block.
-use Prim.Native.Nat.{◌+◌, ◌*◌, ◌%◌, ◌<◌}
 use native.Mathlib.Omega.{arith}
 use Rattle.block_tables.specs.Tables.{table_word}
 use Rattle.block_tables.proofs.TableLaws.{word_in}
-use borrow.Author.Rules.{rules}
 use Rattle.block_tables.proofs.tables.table_word.Goals as goal
 
 pub overflow_mul-table : goal.overflow_mul-table

@@ -1,5 +1,5 @@
 -- `blocks::block::check_block` meets its contract: the first of the two checks that fails.
-use Rattle.std.proofs.Common.{◌∙◌, ap₂, rules}
+use Rattle.std.proofs.Common.{◌∙◌, ap₂}
 use Rattle.numbers.specs.Checks.{both}
 use Rattle.blocks.specs.Blocks.{check_block}
 use Rattle.blocks.proofs.block.check_block.Goals as goal

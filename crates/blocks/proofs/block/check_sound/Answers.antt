@@ -1,5 +1,5 @@
 -- `blocks::block::check_sound` meets its contract: the part cut is the block, and whether it is sound decides the verdict.
-use Rattle.std.proofs.Common.{sym, refl, ap, ◌∙◌, rules}
+use Rattle.std.proofs.Common.{sym, refl, ap, ◌∙◌}
 use Rattle.numbers.specs.Checks.{unless}
 use Rattle.blocks.specs.Blocks.{is_sound, check_sound}
 use Rattle.blocks.proofs.BlockLaws.{block-part}

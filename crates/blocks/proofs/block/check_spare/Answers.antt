@@ -1,5 +1,5 @@
 -- `blocks::block::check_spare` meets its contract: whether the spare words are 0 decides the verdict.
-use Rattle.std.proofs.Common.{sym, ap, ◌∙◌, rules}
+use Rattle.std.proofs.Common.{sym, ap, ◌∙◌}
 use Rattle.numbers.specs.Checks.{unless}
 use Rattle.blocks.specs.Blocks.{check_spare}
 use Rattle.blocks.proofs.block.check_spare.Goals as goal

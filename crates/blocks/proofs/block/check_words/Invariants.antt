@@ -1,8 +1,7 @@
 -- `blocks::block::check_words` meets its contract: both sums run over the words before the index, and wrap.
-use Rattle.std.proofs.Common.{◌≡◌, ℕ, suc, ◌-◌, ◌%◌, ◌^◌, ◌≤◌, refl, ap, ◌∙◌, add-one, arith, rules}
+use Rattle.std.proofs.Common.{◌≡◌, suc, ◌-◌, ◌%◌, ◌^◌, ◌≤◌}
 use Rattle.numbers.specs.Sums.{ℕ_adds, sum_to}
-use Rattle.blocks.specs.Blocks.{word_of, first_check, second_check}
-use Rattle.blocks.proofs.WordLaws.{wrap-next}
+use Rattle.blocks.specs.Blocks.{word_of}
 use Rattle.blocks.proofs.block.check_words.Given as goal
 
 abbrev pub invariant-loop-i : goal.invariant-loop-i

@@ -1,6 +1,5 @@
 -- `blocks::block::fill_block` meets its contract: the words, then the two check words that they call for.
 use Rattle.blocks.proofs.BlockLaws.{block-filled}
-use Rattle.std.proofs.Common.{rules}
 use Rattle.blocks.proofs.block.fill_block.Goals as goal
 
 pub returns : goal.returns

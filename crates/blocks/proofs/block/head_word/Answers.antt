@@ -1,5 +1,5 @@
 -- `blocks::block::head_word` meets its contract: the number, then the payload, then 0.
-use Rattle.std.proofs.Common.{sym, ◌∙◌, rules}
+use Rattle.std.proofs.Common.{sym, ◌∙◌}
 use lib.ListN.{get_or-eq_default}
 use Rattle.blocks.proofs.BlockLaws.{head_word-zero, head_word-next}
 use Rattle.blocks.proofs.block.head_word.Goals as goal

@@ -1,7 +1,6 @@
 -- `blocks::block::is_spare` meets its contract: the words from `used` on are 0 exactly if those from k on are.
-use Rattle.std.proofs.Common.{◌≡◌, ℕ, ◌-◌, ◌≤◌, Bool, eqb, sym, refl, ◌∙◌, arith, eq-eqb, ne_eqb}
+use Rattle.std.proofs.Common.{◌≡◌, ◌-◌, ◌≤◌, eqb}
 use Rattle.numbers.specs.Checks.{every_from}
-use Rattle.numbers.proofs.CheckLaws.{every-on, every_here, every-none}
 use Rattle.blocks.specs.Blocks.{payload_word}
 use Rattle.blocks.proofs.block.is_spare.Given as goal
 

@@ -1,5 +1,5 @@
 -- `blocks::block::payload_word` meets its contract: the word at four times its index in the payload, which has 125 words.
-use Rattle.std.proofs.Common.{◌*◌, length, ap, ◌∙◌, arith, rules}
+use Rattle.std.proofs.Common.{◌*◌, length, ap, ◌∙◌, arith}
 use Rattle.blocks.specs.Words.{word_at}
 use Rattle.blocks.specs.Blocks.{payload_word}
 use Rattle.blocks.proofs.BlockLaws.{length-payload_of}

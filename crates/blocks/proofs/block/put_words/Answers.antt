@@ -1,5 +1,5 @@
 -- `blocks::block::put_words` meets its contract: the words before the index are written, the rest is as it was.
-use Rattle.std.proofs.Common.{◌≡◌, ◌-◌, ◌*◌, ◌≤◌, ◌++◌, length, drop, refl, ap, ◌∙◌, arith, rules}
+use Rattle.std.proofs.Common.{◌≡◌, ◌*◌, ◌++◌, drop, refl, ap, ◌∙◌, arith}
 use Rattle.numbers.specs.Lists.{written}
 use Rattle.blocks.specs.Words.{word_bytes, words_bytes}
 use Rattle.blocks.specs.Blocks.{head_word}

@@ -1,9 +1,7 @@
 -- `blocks::block::put_words` meets its contract: the words before the index are written, the rest is as it was.
-use Rattle.std.proofs.Common.{◌≡◌, ◌-◌, ◌*◌, ◌≤◌, ◌++◌, length, drop, refl, ap, ◌∙◌, arith, rules}
-use Rattle.numbers.specs.Lists.{written}
-use Rattle.blocks.specs.Words.{word_bytes, words_bytes}
+use Rattle.std.proofs.Common.{◌≡◌, ◌-◌, ◌*◌, ◌≤◌, ◌++◌, length, drop}
+use Rattle.blocks.specs.Words.{words_bytes}
 use Rattle.blocks.specs.Blocks.{head_word}
-use Rattle.blocks.proofs.WordLaws.{put_next}
 use Rattle.blocks.proofs.block.put_words.Given as goal
 
 abbrev pub invariant-loop-k : goal.invariant-loop-k

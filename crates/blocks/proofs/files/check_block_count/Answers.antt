@@ -1,5 +1,5 @@
 -- `blocks::files::check_block_count` meets its contract: its test is the definition's.
-use Rattle.std.proofs.Common.{arith, rules}
+use Rattle.std.proofs.Common.{arith}
 use Rattle.blocks.specs.Files.{check_block_count}
 use Rattle.blocks.proofs.files.check_block_count.Goals as goal
 

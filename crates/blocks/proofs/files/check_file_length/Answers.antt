@@ -1,5 +1,5 @@
 -- `blocks::files::check_file_length` meets its contract: its test is the definition's.
-use Rattle.std.proofs.Common.{◌&&◌, ltb, ap, ◌∙◌, rules}
+use Rattle.std.proofs.Common.{◌&&◌, ltb, ap, ◌∙◌}
 use Rattle.numbers.specs.Checks.{unless}
 use Rattle.blocks.specs.Files.{check_file_length}
 use Rattle.blocks.proofs.files.check_file_length.Goals as goal

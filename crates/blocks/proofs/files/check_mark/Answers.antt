@@ -1,5 +1,5 @@
 -- `blocks::files::check_mark` meets its contract: the word that is read is tested.
-use Rattle.std.proofs.Common.{eqb, ap, ◌∙◌, arith, rules}
+use Rattle.std.proofs.Common.{eqb, ap, ◌∙◌, arith}
 use Rattle.numbers.specs.Checks.{unless}
 use Rattle.blocks.specs.Files.{check_mark}
 use Rattle.blocks.proofs.files.check_mark.Goals as goal

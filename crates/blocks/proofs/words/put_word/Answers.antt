@@ -1,5 +1,5 @@
 -- `blocks::words::put_word` meets its contract: four stores in a row are one written part.
-use Rattle.std.proofs.Common.{add-one, arith, length-set, rules}
+use Rattle.std.proofs.Common.{add-one, arith, length-set}
 use native.Mathlib.Numerals.{add-two, add-three}
 use Rattle.numbers.proofs.PartLaws.{sets-written}
 use Rattle.blocks.specs.Words.{word_bytes}

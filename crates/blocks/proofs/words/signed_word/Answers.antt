@@ -6,7 +6,6 @@ use Rattle.numbers.proofs.SignedLaws.{signed, about, one-part, minus-parts, over
 use Rattle.blocks.specs.Words.{signed_word}
 use Rattle.blocks.proofs.words.signed_word.Goals as goal
 use Rattle.blocks.proofs.words.signed_word.Lts as lts
-use Rattle.blocks.proofs.words.signed_word.Tie as tie
 use Rattle.blocks.proofs.words.signed_word.Reads as reads
 
 -- places in the code at which no goal stands

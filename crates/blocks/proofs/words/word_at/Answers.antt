@@ -1,6 +1,5 @@
 -- `blocks::words::word_at` meets its contract: four bytes, widened, with their weights.
 use Rattle.blocks.specs.Words.{word_at}
-use Rattle.std.proofs.Common.{rules}
 use Rattle.blocks.proofs.words.word_at.Goals as goal
 
 pub returns : goal.returns

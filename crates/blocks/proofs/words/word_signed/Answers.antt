@@ -1,5 +1,5 @@
 -- `blocks::words::word_signed` meets its contract: a word from 2 ^ 31 on stands for −1 less what it is below 2 ^ 32 − 1, and all of it fits 32 bits.
-use Rattle.std.proofs.Common.{◌≡◌, ℕ, ◌-◌, ◌^◌, ◌<◌, ◌≤◌, ℤ, pos, negsuc, ◌-ℤ◌, sym, ap, ◌∙◌, subst, arith, w32, SFits, to_z, of_z, rules, le-ltb, lt-ltb}
+use Rattle.std.proofs.Common.{◌≡◌, ℕ, ◌-◌, ◌^◌, ◌<◌, ◌≤◌, ℤ, pos, negsuc, ◌-ℤ◌, sym, ap, ◌∙◌, subst, arith, w32, SFits, to_z, of_z, le-ltb, lt-ltb}
 use mir.ValLaws.{to_z-of_z, to_z_pos}
 use Rattle.numbers.proofs.SignedLaws.{signed, minus-parts, one-part}
 use Rattle.blocks.specs.Words.{word_signed}

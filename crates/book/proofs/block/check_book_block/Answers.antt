@@ -3,7 +3,6 @@ use mathlib.Core.Path.{sym, ◌∙◌, ap₂, subst}
 use Prim.Native.Nat.{◌≤◌}
 use Rattle.numbers.specs.Checks.{both}
 use Rattle.book_spec.proofs.CodeLaws.{head-stops, head-used, head-goes}
-use borrow.Author.Rules.{rules}
 use Rattle.book.proofs.block.check_book_block.Goals as goal
 
 pub returns-in-Fail : goal.returns-in-Fail

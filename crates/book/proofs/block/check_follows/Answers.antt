@@ -5,7 +5,6 @@ use Rattle.numbers.specs.Checks.{unless, every_from}
 use Rattle.blocks.specs.Blocks.{payload_word}
 use Rattle.blocks.specs.Words.{word_signed}
 use Rattle.book_spec.specs.ReadBook.{is_next, check_follows}
-use borrow.Author.Rules.{rules}
 use Rattle.book.proofs.block.check_follows.Goals as goal
 
 pub returns-then-totals_follow : goal.returns-then-totals_follow

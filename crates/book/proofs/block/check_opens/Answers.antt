@@ -2,7 +2,6 @@
 use mathlib.Core.Path.{refl, sym, ◌∙◌}
 use borrow.Author.Tests.{le-leb, lt-leb, eq-eqb, ne_eqb}
 use Rattle.book_spec.specs.ReadBook.{check_opens}
-use borrow.Author.Rules.{rules}
 use Rattle.book.proofs.block.check_opens.Goals as goal
 
 pub returns-then-number-le1 : goal.returns-then-number-le1

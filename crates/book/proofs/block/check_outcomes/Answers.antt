@@ -5,7 +5,6 @@ use lib.Dec.{leb}
 use Rattle.numbers.specs.Checks.{unless, every_from}
 use Rattle.blocks.specs.Blocks.{payload_word}
 use Rattle.book_spec.specs.ReadBook.{check_outcomes}
-use borrow.Author.Rules.{rules}
 use Rattle.book.proofs.block.check_outcomes.Goals as goal
 
 pub returns-then-outcomes_hold : goal.returns-then-outcomes_hold

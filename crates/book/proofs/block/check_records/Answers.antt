@@ -2,7 +2,6 @@
 use mathlib.Core.Path.{◌∙◌, ap₂}
 use Rattle.numbers.specs.Checks.{both}
 use Rattle.numbers.proofs.CheckLaws.{last}
-use borrow.Author.Rules.{rules}
 use Rattle.book.proofs.block.check_records.Goals as goal
 
 pub returns : goal.returns

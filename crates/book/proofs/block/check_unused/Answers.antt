@@ -5,7 +5,6 @@ use lib.Dec.{eqb}
 use Rattle.numbers.specs.Checks.{unless, every_from}
 use Rattle.blocks.specs.Blocks.{payload_word}
 use Rattle.book_spec.specs.ReadBook.{check_unused}
-use borrow.Author.Rules.{rules}
 use Rattle.book.proofs.block.check_unused.Goals as goal
 
 pub returns-then-unused_zero : goal.returns-then-unused_zero

@@ -5,7 +5,6 @@ use native.Mathlib.Omega.{arith}
 use borrow.Author.Tests.{le-leb, lt-leb}
 use Rattle.book_spec.specs.Book.{used_of}
 use Rattle.book_spec.specs.ReadBook.{least_used, check_used}
-use borrow.Author.Rules.{rules}
 use Rattle.book.proofs.block.check_used.Goals as goal
 
 pub returns-then-used-least_used : goal.returns-then-used-least_used

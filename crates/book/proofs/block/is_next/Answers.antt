@@ -1,7 +1,6 @@
 -- `book::block::is_next` meets its contract: by the sign of the source.
 use native.Mathlib.Omega.{arith}
 use Rattle.book_spec.proofs.CodeLaws.{next-above, next-below}
-use borrow.Author.Rules.{rules}
 use Rattle.book.proofs.block.is_next.Goals as goal
 
 pub returns-then-w-lt2147483648 : goal.returns-then-w-lt2147483648

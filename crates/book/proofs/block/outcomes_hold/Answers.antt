@@ -5,7 +5,6 @@ use Prim.Native.Nat.{ℕ, ◌+◌, ◌*◌, ◌-◌, ◌≤◌, ◌<◌}
 use native.Mathlib.Omega.{arith}
 use borrow.Author.Tests.{le-leb, lt-leb}
 use lib.Dec.{leb}
-use Rattle.numbers.specs.Checks.{every_from}
 use Rattle.numbers.proofs.CheckLaws.{every-on, every_here, every-none}
 use Rattle.blocks.specs.Blocks.{payload_word}
 use Rattle.book.proofs.block.outcomes_hold.Goals as goal

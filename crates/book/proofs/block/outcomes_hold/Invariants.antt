@@ -1,12 +1,8 @@
 -- `book::block::outcomes_hold` meets its contract: the records from i on decide.
-use mathlib.Core.Path.{◌≡◌, sym, ◌∙◌, subst}
-use mathlib.Core.Bool.{Bool}
-use Prim.Native.Nat.{ℕ, ◌+◌, ◌*◌, ◌-◌, ◌≤◌, ◌<◌}
-use native.Mathlib.Omega.{arith}
-use borrow.Author.Tests.{le-leb, lt-leb}
+use mathlib.Core.Path.{◌≡◌}
+use Prim.Native.Nat.{◌+◌, ◌*◌, ◌-◌, ◌≤◌}
 use lib.Dec.{leb}
 use Rattle.numbers.specs.Checks.{every_from}
-use Rattle.numbers.proofs.CheckLaws.{every-on, every_here, every-none}
 use Rattle.blocks.specs.Blocks.{payload_word}
 use Rattle.book.proofs.block.outcomes_hold.Given as goal
 

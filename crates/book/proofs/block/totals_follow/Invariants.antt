@@ -1,12 +1,9 @@
 -- `book::block::totals_follow` meets its contract: the records from i on decide.
-use mathlib.Core.Path.{◌≡◌, sym, ◌∙◌}
+use mathlib.Core.Path.{◌≡◌}
 use mathlib.Core.Bool.{Bool}
 use mathlib.Core.List.{List}
 use Prim.Native.Nat.{ℕ, ◌+◌, ◌*◌, ◌-◌, ◌≤◌}
-use native.Mathlib.Omega.{arith}
-use borrow.Author.Tests.{not-true, not-false}
 use Rattle.numbers.specs.Checks.{every_from}
-use Rattle.numbers.proofs.CheckLaws.{every-on, every_here, every-none}
 use Rattle.blocks.specs.Blocks.{payload_word}
 use Rattle.blocks.specs.Words.{word_signed}
 use Rattle.book_spec.specs.ReadBook.{is_next}

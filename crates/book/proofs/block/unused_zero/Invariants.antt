@@ -1,12 +1,8 @@
 -- `book::block::unused_zero` meets its contract: the words from j on decide.
-use mathlib.Core.Path.{◌≡◌, sym, ◌∙◌}
-use mathlib.Core.Bool.{Bool}
-use Prim.Native.Nat.{ℕ, ◌+◌, ◌*◌, ◌-◌, ◌≤◌}
-use native.Mathlib.Omega.{arith}
-use borrow.Author.Tests.{eq-eqb, ne_eqb}
+use mathlib.Core.Path.{◌≡◌}
+use Prim.Native.Nat.{◌+◌, ◌*◌, ◌-◌, ◌≤◌}
 use lib.Dec.{eqb}
 use Rattle.numbers.specs.Checks.{every_from}
-use Rattle.numbers.proofs.CheckLaws.{every-on, every_here, every-none}
 use Rattle.blocks.specs.Blocks.{payload_word}
 use Rattle.book.proofs.block.unused_zero.Given as goal
 

@@ -9,7 +9,6 @@ use Rattle.blocks.specs.Words.{word_signed, signed_word}
 use Rattle.blocks.proofs.WordLaws.{signed_back}
 use Rattle.book_spec.specs.Book.{entry, count, max_entries, book_blocks}
 use Rattle.book_spec.specs.LentBook.{held_in, HasBook, grown_buffer}
-use borrow.Author.Rules.{rules}
 use Rattle.book.proofs.lent.add_record.Goals as goal
 use Rattle.book.proofs.lent.add_record.Lts as lts
 use Rattle.book.proofs.lent.add_record.Tie as tie

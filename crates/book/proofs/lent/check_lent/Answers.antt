@@ -14,7 +14,6 @@ use Rattle.blocks.proofs.FileLaws.{length-decides}
 use Rattle.book_spec.specs.Book.{max_bytes, book_of}
 use Rattle.book_spec.specs.ReadBook.{book_verdict}
 use Rattle.book_spec.specs.LentBook.{check_closing, check_full}
-use borrow.Author.Rules.{rules}
 use Rattle.book.proofs.lent.check_lent.Goals as goal
 use Rattle.book.proofs.lent.check_lent.Lts as lts
 use Rattle.book.proofs.lent.check_lent.Tie as tie

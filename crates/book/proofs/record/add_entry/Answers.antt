@@ -8,7 +8,6 @@ use Rattle.numbers.proofs.ListLaws.{length-list_to}
 use Rattle.book_spec.specs.Book.{Book}
 use Rattle.book_spec.specs.LentBook.{held_in}
 use Rattle.book_spec.proofs.EntryLaws.{held-room, next-room, next-opens, last-blocks, next-blocks, entry-last, entry_next}
-use borrow.Author.Rules.{rules}
 use Rattle.book.proofs.record.add_entry.Goals as goal
 use Rattle.book.proofs.record.add_entry.Lts as lts
 use Rattle.book.proofs.record.add_entry.Tie as tie

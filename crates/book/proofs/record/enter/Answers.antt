@@ -2,7 +2,6 @@
 use mathlib.Core.Path.{refl}
 use native.Mathlib.Omega.{arith}
 use lib.ListN.{length-set}
-use borrow.Author.Rules.{rules}
 use Rattle.book.proofs.record.enter.Goals as goal
 
 pub bounds-words-used-2 : goal.bounds-words-used-2

@@ -1,8 +1,8 @@
 -- `book::record::load_words` meets its contract: the first i words are the block's.
 use mathlib.Core.Path.{◌≡◌, sym, ◌∙◌, ap, ap₂}
-use Prim.Native.Nat.{◌+◌, ◌-◌, ◌≤◌}
+use Prim.Native.Nat.{◌+◌}
 use native.Mathlib.Omega.{arith}
-use lib.ListN.{length, set, length-set}
+use lib.ListN.{set, length-set}
 use Rattle.numbers.specs.Lists.{list_to, written}
 use Rattle.numbers.proofs.ListLaws.{written_none, written_next, written_all}
 use Rattle.blocks.specs.Blocks.{payload_word}

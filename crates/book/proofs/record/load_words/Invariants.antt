@@ -1,10 +1,8 @@
 -- `book::record::load_words` meets its contract: the first i words are the block's.
-use mathlib.Core.Path.{◌≡◌, sym, ◌∙◌, ap, ap₂}
-use Prim.Native.Nat.{◌+◌, ◌-◌, ◌≤◌}
-use native.Mathlib.Omega.{arith}
-use lib.ListN.{length, set, length-set}
+use mathlib.Core.Path.{◌≡◌}
+use Prim.Native.Nat.{◌-◌, ◌≤◌}
+use lib.ListN.{length}
 use Rattle.numbers.specs.Lists.{list_to, written}
-use Rattle.numbers.proofs.ListLaws.{written_none, written_next, written_all}
 use Rattle.blocks.specs.Blocks.{payload_word}
 use Rattle.book.proofs.record.load_words.Given as goal
 

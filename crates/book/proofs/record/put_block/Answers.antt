@@ -5,7 +5,6 @@ use native.Mathlib.Omega.{arith}
 use Rattle.numbers.proofs.PartLaws.{put_back}
 use Rattle.blocks.proofs.BlockLaws.{length-block_bytes}
 use borrow.Rule.Slice.PartMut.{put_mid}
-use borrow.Author.Rules.{rules}
 use Rattle.book.proofs.record.put_block.Goals as goal
 
 pub returns : goal.returns

@@ -2,7 +2,6 @@
 use mathlib.Core.Path.{sym, ◌∙◌, ap}
 use Rattle.numbers.specs.Lists.{written}
 use Rattle.book_spec.proofs.EntryLaws.{empty-bytes}
-use borrow.Author.Rules.{rules}
 use Rattle.book.proofs.record.put_empty.Goals as goal
 
 pub returns : goal.returns

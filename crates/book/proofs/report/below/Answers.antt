@@ -2,7 +2,6 @@
 use mathlib.Core.Path.{sym}
 use native.Mathlib.Omega.{arith}
 use Rattle.book_spec.proofs.CodeLaws.{word-above, word_below}
-use borrow.Author.Rules.{rules}
 use Rattle.book.proofs.report.below.Goals as goal
 
 pub returns-then-word-lt2147483648 : goal.returns-then-word-lt2147483648

@@ -7,7 +7,6 @@ use Rattle.blocks.specs.Words.{Bytes}
 use Rattle.blocks.specs.Blocks.{payload_word}
 use Rattle.book_spec.specs.Book.{used_of}
 use Rattle.book_spec.proofs.MeansLaws.{read-closing}
-use borrow.Author.Rules.{rules}
 use Rattle.book.proofs.report.closing_of.Goals as goal
 use Rattle.book.proofs.report.closing_of.Lts as lts
 use Rattle.book.proofs.report.closing_of.Tie as tie

@@ -6,7 +6,6 @@ use lib.ListN.{length}
 use Rattle.blocks.specs.Words.{Bytes}
 use Rattle.book_spec.specs.Book.{used_of}
 use Rattle.book_spec.proofs.MeansLaws.{read_count}
-use borrow.Author.Rules.{rules}
 use Rattle.book.proofs.report.count_of.Goals as goal
 use Rattle.book.proofs.report.count_of.Lts as lts
 use Rattle.book.proofs.report.count_of.Tie as tie

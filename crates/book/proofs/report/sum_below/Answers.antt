@@ -1,14 +1,11 @@
 -- `book::report::sum_below` meets its contract: the sum so far is that of the records passed, at most 2 ^ 31 for each of them.
 use mathlib.Core.Path.{◌≡◌, ◌∙◌, ap}
-use mathlib.Core.List.{List}
-use Prim.Native.Nat.{ℕ, ◌+◌, ◌*◌, ◌-◌, ◌/◌, ◌%◌, ◌≤◌}
 use native.Mathlib.Omega.{arith}
 use native.Mathlib.Numerals.{add-one}
 use Rattle.numbers.specs.Sums.{ℕ_adds, sum_to}
 use Rattle.numbers.specs.Signed.{under}
 use Rattle.numbers.proofs.SumLaws.{sum_to-next}
 use Rattle.blocks.specs.Words.{word_signed}
-use Rattle.blocks.specs.Blocks.{payload_word}
 use Rattle.book.proofs.report.sum_below.Goals as goal
 use Rattle.book.proofs.report.sum_below.Invariants.{part}
 

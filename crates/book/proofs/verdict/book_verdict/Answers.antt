@@ -8,7 +8,6 @@ use Rattle.blocks.specs.Files.{check_file_length}
 use Rattle.blocks.proofs.FileLaws.{length-decides}
 use Rattle.book_spec.specs.Book.{max_bytes}
 use Rattle.book_spec.specs.ReadBook.{book_verdict}
-use borrow.Author.Rules.{rules}
 use Rattle.book.proofs.verdict.book_verdict.Goals as goal
 use Rattle.book.proofs.verdict.book_verdict.Lts as lts
 use Rattle.book.proofs.verdict.book_verdict.Tie as tie

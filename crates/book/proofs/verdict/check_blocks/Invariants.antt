@@ -1,11 +1,8 @@
 -- `book::verdict::check_blocks` meets its contract: the blocks from b on decide.
-use mathlib.Core.Path.{◌≡◌, refl, sym, ◌∙◌}
+use mathlib.Core.Path.{◌≡◌}
 use Prim.Native.Nat.{◌+◌, ◌-◌, ◌≤◌}
-use native.Mathlib.Omega.{arith}
 use Rattle.numbers.specs.Checks.{each_from}
-use Rattle.numbers.proofs.CheckLaws.{each_on, each-here, each_none}
 use Rattle.book_spec.specs.ReadBook.{check_book_block}
-use borrow.Author.Rules.{rules}
 use Rattle.book.proofs.verdict.check_blocks.Given as goal
 
 abbrev pub invariant-loop-b : goal.invariant-loop-b

@@ -6,7 +6,6 @@ use Rattle.numbers.specs.declared.Checked.TheVariants.{Pass}
 use Rattle.numbers.proofs.CheckLaws.{on, stop}
 use Rattle.book_spec.specs.ReadBook.{book_verdict}
 use Rattle.book_spec.proofs.ReadLaws.{book-accepts}
-use borrow.Author.Rules.{rules}
 use Rattle.book.proofs.verdict.file_verdict.Goals as goal
 use Rattle.book.proofs.verdict.file_verdict.Lts as lts
 use Rattle.book.proofs.verdict.file_verdict.Tie as tie

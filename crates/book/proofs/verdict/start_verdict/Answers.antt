@@ -6,7 +6,6 @@ use mir.ValLaws.{to_z_pos}
 use Rattle.numbers.specs.Checks.{both, check_total}
 use Rattle.numbers.proofs.CheckLaws.{last}
 use Rattle.book_spec.specs.StartBook.{book_start_verdict}
-use borrow.Author.Rules.{rules}
 use Rattle.book.proofs.verdict.start_verdict.Goals as goal
 
 pub check_long-requires : goal.check_long-requires

@@ -2,7 +2,6 @@
 use native.Mathlib.Omega.{arith}
 use Rattle.text.proofs.TextLaws.{then}
 use Rattle.book_report.specs.Report.{book_line}
-use borrow.Author.Rules.{rules}
 use Rattle.book_report.proofs.work.put_line.Goals as goal
 
 pub returns : goal.returns

@@ -1,7 +1,6 @@
 -- `book_report::work::put_report` meets its contract: a refused book has the line of its refusal, and any other that of its report.
 use native.Mathlib.Omega.{arith}
 use Rattle.book_report.proofs.ReportLaws.{text-refused, text-done}
-use borrow.Author.Rules.{rules}
 use Rattle.book_report.proofs.work.put_report.Goals as goal
 
 pub returns-in-Refused : goal.returns-in-Refused

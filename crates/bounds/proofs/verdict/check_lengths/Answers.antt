@@ -1,6 +1,5 @@
 -- `bounds::verdict::check_lengths` meets its contract: six lengths, each checked with the number 3, are one check of all.
 use Rattle.bounds.proofs.CheckLaws.{lengths-is}
-use borrow.Author.Rules.{rules}
 use Rattle.bounds.proofs.verdict.check_lengths.Goals as goal
 
 pub returns : goal.returns

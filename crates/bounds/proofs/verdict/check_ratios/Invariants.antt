@@ -1,13 +1,9 @@
 -- `bounds::verdict::check_ratios` meets its contract: the verdict is that of the cells from c on.
-use mathlib.Core.Path.{◌≡◌, sym, ◌∙◌}
+use mathlib.Core.Path.{◌≡◌}
 use Prim.Native.Nat.{◌≤◌, ◌-◌}
-use native.Mathlib.Nat.{sub-zero}
-use native.Mathlib.Omega.{arith}
-use borrow.Author.Tests.{not-true, not-false}
 use lib.ListN.{length}
 use Rattle.numbers.specs.Checks.{first_from}
-use Rattle.numbers.proofs.CheckLaws.{first_on, first-here, first-none}
-use Rattle.bounds_spec.specs.Bounds.{ratios_ok_at, check_ratios}
+use Rattle.bounds_spec.specs.Bounds.{ratios_ok_at}
 use Rattle.bounds.proofs.verdict.check_ratios.Given as goal
 
 abbrev pub invariant-loop-c : goal.invariant-loop-c

@@ -5,7 +5,6 @@ use lib.ListN.{length}
 use Rattle.numbers.proofs.CheckLaws.{on, stop, last, count-decides}
 use Rattle.bounds_spec.specs.Bounds.{check_ratios}
 use Rattle.bounds_spec.proofs.BoundsLaws.{lengths-passed}
-use borrow.Author.Rules.{rules}
 use Rattle.bounds.proofs.verdict.verdict.Goals as goal
 
 pub returns-in-Fail : goal.returns-in-Fail

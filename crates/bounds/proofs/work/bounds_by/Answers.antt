@@ -3,7 +3,6 @@ use mathlib.Core.Path.{refl, sym, ◌∙◌}
 use Rattle.numbers.proofs.CheckLaws.{accepted-answered, refused-answered, after-pass, after-fail}
 use Rattle.bounds_spec.specs.Bounds.{bounds_tells}
 use Rattle.bounds_spec.proofs.BoundsLaws.{bounds-accepts}
-use borrow.Author.Rules.{rules}
 use Rattle.bounds.proofs.work.bounds_by.Goals as goal
 
 pub returns-in-Fail : goal.returns-in-Fail

@@ -1,13 +1,11 @@
 -- `bounds::work::convert` meets its contract: the bounds of the cells passed stand in the lists.
 use mathlib.Core.Path.{◌≡◌, sym, ◌∙◌, subst}
-use Prim.Native.Nat.{◌≤◌, ◌-◌}
+use Prim.Native.Nat.{◌≤◌}
 use native.Mathlib.Omega.{arith}
 use lib.ListN.{length}
 use Rattle.bounds_spec.specs.Ratios.{parts}
-use Rattle.bounds_spec.specs.Bounds.{mixing, bounds}
 use Rattle.bounds_spec.proofs.BoundsLaws.{field_fits}
-use Rattle.bounds.proofs.FillLaws.{Filled, filled_none, field_is, cell-is, filled-lengths, filled_next, filled-all}
-use borrow.Author.Rules.{rules}
+use Rattle.bounds.proofs.FillLaws.{filled_none, field_is, cell-is, filled-lengths, filled_next, filled-all}
 use Rattle.bounds.proofs.work.convert.Goals as goal
 
 pub field_ratios-field-requires : goal.field_ratios-field-requires

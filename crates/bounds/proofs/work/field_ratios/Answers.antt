@@ -1,9 +1,8 @@
 -- `bounds::work::field_ratios` meets its contract: the ratios so far are those of the cells passed.
 use mathlib.Core.Path.{◌≡◌, ◌∙◌, ap, ap₂}
-use Prim.Native.Nat.{◌≤◌, ◌-◌, min, max}
+use Prim.Native.Nat.{min, max}
 use native.Mathlib.Numerals.{add-one}
 use native.Mathlib.Omega.{arith}
-use borrow.Author.Rules.{rules}
 use lib.ListN.{length}
 use Rattle.numbers.specs.Lists.{at}
 use Rattle.bounds_spec.specs.Ratios.{chosen, least_of, most_of}

@@ -1,12 +1,9 @@
 -- `bounds::work::field_ratios` meets its contract: the ratios so far are those of the cells passed.
-use mathlib.Core.Path.{◌≡◌, ◌∙◌, ap, ap₂}
-use Prim.Native.Nat.{◌≤◌, ◌-◌, min, max}
-use native.Mathlib.Numerals.{add-one}
-use native.Mathlib.Omega.{arith}
-use borrow.Author.Rules.{rules}
+use mathlib.Core.Path.{◌≡◌}
+use Prim.Native.Nat.{◌≤◌, ◌-◌}
 use lib.ListN.{length}
 use Rattle.numbers.specs.Lists.{at}
-use Rattle.bounds_spec.specs.Ratios.{chosen, least_of, most_of}
+use Rattle.bounds_spec.specs.Ratios.{least_of, most_of}
 use Rattle.bounds.proofs.work.field_ratios.Given as goal
 
 abbrev pub invariant-loop-c : goal.invariant-loop-c

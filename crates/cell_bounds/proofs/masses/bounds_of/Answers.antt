@@ -1,5 +1,4 @@
 -- `cell_bounds::masses::bounds_of` meets its contract: each bound by its own ratio.
-use borrow.Author.Rules.{rules}
 use Rattle.cell_bounds.proofs.masses.bounds_of.Goals as goal
 
 pub returns : goal.returns

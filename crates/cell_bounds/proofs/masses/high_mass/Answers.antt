@@ -3,7 +3,6 @@ use mathlib.Core.Path.{◌∙◌, ap}
 use Prim.Native.Nat.{◌*◌, ◌/◌}
 use native.Mathlib.Nat.{add-zero}
 use Rattle.bounds_spec.specs.Ratios.{parts, mass_of, high_mass}
-use borrow.Author.Rules.{rules}
 use Rattle.cell_bounds.proofs.masses.high_mass.Goals as goal
 
 pub returns : goal.returns

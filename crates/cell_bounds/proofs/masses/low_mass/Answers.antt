@@ -3,7 +3,6 @@ use mathlib.Core.Path.{◌∙◌, ap}
 use Prim.Native.Nat.{◌*◌}
 use Rattle.bounds_spec.specs.Ratios.{mass_of, low_mass}
 use Rattle.bounds_spec.proofs.RatioLaws.{ceiling-plus}
-use borrow.Author.Rules.{rules}
 use Rattle.cell_bounds.proofs.masses.low_mass.Goals as goal
 
 pub returns : goal.returns

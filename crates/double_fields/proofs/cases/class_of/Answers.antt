@@ -1,7 +1,7 @@
 -- `double_fields::cases::class_of` meets its contract: each test is one of the class that the bit pattern is in, and a double's class is its pattern's.
 use mathlib.Core.Path.{refl, sym, subst}
 use lib.Dec.{T}
-use lib.Ieee.{Float, binary64, to_bits, fits}
+use lib.Ieee.{Float, binary64, to_bits}
 use Rattle.doubles_spec.specs.Classes.{InClass}
 use Rattle.doubles_spec.specs.declared.Class.TheVariants.{Zero, Subnormal, Normal, NotANumber}
 use Rattle.doubles_spec.proofs.Patterns.{no_nan, is-nan}

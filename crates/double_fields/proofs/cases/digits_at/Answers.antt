@@ -4,7 +4,6 @@ use Prim.Native.Nat.{ℕ, ◌-◌, ◌*◌, ◌/◌, ◌%◌, ◌^◌, ◌<◌, 
 use native.Mathlib.Nat.{mod-le}
 use native.Mathlib.Omega.{arith}
 use lib.Pow.{pow_pos}
-use borrow.Author.Rules.{rules}
 use Rattle.doubles_spec.specs.declared.Rest.{Rest}
 use Rattle.doubles_spec.specs.declared.Product.TheVariants.{Finite}
 use Rattle.doubles_spec.proofs.Fractions.{large, shifted, tiny, read_at, unit-is}

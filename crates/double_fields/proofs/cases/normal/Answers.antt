@@ -4,7 +4,6 @@ use mathlib.Core.Bool.{Bool}
 use Prim.Native.Nat.{◌+◌, ◌*◌, ◌^◌}
 use lib.Dec.{T}
 use lib.Ieee.{binary64, to_bits, fits}
-use borrow.Author.Rules.{rules}
 use Rattle.doubles_spec.specs.Classes.{exponent_field, fraction_field}
 use Rattle.doubles_spec.specs.Forms.{fraction}
 use Rattle.doubles_spec.proofs.CaseLaws.{normal-product, normal-no-nan, below-zero}

@@ -2,7 +2,6 @@
 use mathlib.Core.Path.{◌≡◌, sym, ap, ◌∙◌, subst}
 use mathlib.Core.Bool.{Bool}
 use lib.Ieee.{Float}
-use borrow.Author.Rules.{rules}
 use Rattle.doubles_spec.specs.Classes.{InClass}
 use Rattle.doubles_spec.specs.declared.Class.{Class}
 use Rattle.doubles_spec.specs.declared.Rest.TheVariants.{LessThanHalf}

@@ -3,7 +3,6 @@ use mathlib.Core.Path.{◌≡◌, sym, ap, ◌∙◌}
 use mathlib.Core.Bool.{Bool, true, false}
 use Prim.Native.Nat.{ℕ}
 use lib.Ieee.{Float}
-use borrow.Author.Rules.{rules}
 use Rattle.doubles_spec.specs.Forms.{product, high_field}
 use Rattle.doubles_spec.specs.declared.Rest.{Rest}
 use Rattle.doubles_spec.specs.declared.Product.{Product}

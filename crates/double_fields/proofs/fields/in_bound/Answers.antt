@@ -1,6 +1,5 @@
 -- `double_fields::fields::in_bound` meets its contract: its test is that of `in_bound`.
 use mathlib.Core.Path.{sym}
-use borrow.Author.Rules.{rules}
 use Rattle.doubles_spec.proofs.FieldLaws.{in-range, out_of_range}
 use Rattle.double_fields.proofs.fields.in_bound.Goals as goal
 

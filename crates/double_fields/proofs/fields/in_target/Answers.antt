@@ -5,7 +5,6 @@ use Prim.Native.Nat.{ℕ, ◌-◌, ◌<◌, ◌^◌}
 use native.Mathlib.Omega.{arith}
 use mir.Syntax.{w32}
 use mir.ValLaws.{to_z_pos}
-use borrow.Author.Rules.{rules}
 use Rattle.doubles_spec.specs.Forms.{in_target}
 use Rattle.numbers.specs.Roundings.{signed}
 use Rattle.doubles_spec.specs.declared.TargetField.{TargetField}

@@ -1,5 +1,4 @@
 -- `doubles::power::power` meets its contract: the bits are the exponent's field 1023 - k and no digits, which stand for 2 ^ -k.
-use borrow.Author.Rules.{rules}
 use Rattle.doubles_spec.proofs.Powers.{power-no-nan, power-value}
 use Rattle.doubles.proofs.power.power.Goals as goal
 

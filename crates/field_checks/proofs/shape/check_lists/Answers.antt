@@ -1,6 +1,5 @@
 -- `field_checks::shape::check_lists` meets its contract: seven checks with the number 3 are one check of all.
 use Rattle.field_checks.proofs.CodeLaws.{lists-is}
-use borrow.Author.Rules.{rules}
 use Rattle.field_checks.proofs.shape.check_lists.Goals as goal
 
 pub returns : goal.returns

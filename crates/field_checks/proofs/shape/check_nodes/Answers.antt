@@ -2,7 +2,6 @@
 use mathlib.Core.Path.{◌∙◌, ap}
 use Rattle.numbers.specs.Checks.{unless}
 use Rattle.qlt_spec.specs.Checks.{check_nodes}
-use borrow.Author.Rules.{rules}
 use Rattle.field_checks.proofs.shape.check_nodes.Goals as goal
 
 pub returns : goal.returns

@@ -3,7 +3,6 @@ use mathlib.Core.Path.{sym, ◌∙◌}
 use Rattle.numbers.proofs.CheckLaws.{on, stop, last}
 use Rattle.qlt_spec.specs.Checks.{check_shape}
 use Rattle.qlt_spec.proofs.CheckLaws.{nodes-decides}
-use borrow.Author.Rules.{rules}
 use Rattle.field_checks.proofs.shape.check_shape.Goals as goal
 
 pub returns-in-Fail : goal.returns-in-Fail

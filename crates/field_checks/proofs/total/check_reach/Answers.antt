@@ -4,7 +4,6 @@ use mathlib.Core.Bool.{◌&&◌}
 use lib.Dec.{leb}
 use Rattle.numbers.specs.Checks.{unless}
 use Rattle.qlt_spec.specs.Checks.{check_reach}
-use borrow.Author.Rules.{rules}
 use Rattle.field_checks.proofs.total.check_reach.Goals as goal
 
 pub returns : goal.returns

@@ -1,7 +1,6 @@
 -- `field_checks::total::outcome_of` meets its contract: each test of a sum that is taken decides the outcome.
 use borrow.Author.Tests.{le-ltb, lt-ltb}
 use Rattle.qlt_spec.specs.Field.{outcome_number}
-use borrow.Author.Rules.{rules}
 use Rattle.field_checks.proofs.total.outcome_of.Goals as goal
 
 pub returns-then-total-low : goal.returns-then-total-low

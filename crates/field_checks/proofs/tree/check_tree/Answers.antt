@@ -4,7 +4,6 @@ use native.Mathlib.Omega.{arith}
 use lib.ListN.{length}
 use Rattle.numbers.specs.Lists.{at}
 use Rattle.field_checks.proofs.CodeLaws.{marks-start}
-use borrow.Author.Rules.{rules}
 use Rattle.field_checks.proofs.tree.check_tree.Goals as goal
 
 pub mark-requires : goal.mark-requires

@@ -1,17 +1,10 @@
 -- `field_checks::tree::first_bad` meets its contract: the verdict is that of the nodes from v on.
-use mathlib.Core.Path.{◌≡◌, sym, ◌∙◌}
+use mathlib.Core.Path.{◌≡◌}
 use Prim.Native.Nat.{◌≤◌, ◌-◌}
-use native.Mathlib.Nat.{sub-zero}
-use native.Mathlib.Omega.{arith}
-use borrow.Author.Tests.{not-true, not-false}
 use lib.ListN.{length}
 use Rattle.numbers.specs.Lists.{at}
 use Rattle.numbers.specs.Checks.{first_from}
-use Rattle.numbers.proofs.CheckLaws.{first_on, first-here, first-none}
 use Rattle.qlt_spec.specs.Tree.{node_ok}
-use Rattle.qlt_spec.specs.Checks.{check_tree}
-use Rattle.field_checks.proofs.CodeLaws.{good-is}
-use borrow.Author.Rules.{rules}
 use Rattle.field_checks.proofs.tree.first_bad.Given as goal
 
 abbrev pub invariant-loop-v : goal.invariant-loop-v

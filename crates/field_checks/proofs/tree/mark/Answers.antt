@@ -1,12 +1,10 @@
 -- `field_checks::tree::mark` meets its contract: after u turns the marks are those of the nodes with a child among the first u.
 use mathlib.Core.Path.{◌≡◌, refl, ◌∙◌, subst}
-use Prim.Native.Nat.{◌≤◌, ◌-◌}
 use native.Mathlib.Omega.{arith}
 use lib.ListN.{length}
 use Rattle.numbers.specs.Lists.{at}
 use Rattle.field_checks.specs.Lists.{Marks}
 use Rattle.field_checks.proofs.CodeLaws.{marks-turn}
-use borrow.Author.Rules.{rules}
 use Rattle.field_checks.proofs.tree.mark.Goals as goal
 
 pub loop-u-init : goal.loop-u-init

@@ -1,12 +1,9 @@
 -- `field_checks::tree::mark` meets its contract: after u turns the marks are those of the nodes with a child among the first u.
-use mathlib.Core.Path.{◌≡◌, refl, ◌∙◌, subst}
+use mathlib.Core.Path.{◌≡◌}
 use Prim.Native.Nat.{◌≤◌, ◌-◌}
-use native.Mathlib.Omega.{arith}
 use lib.ListN.{length}
 use Rattle.numbers.specs.Lists.{at}
 use Rattle.field_checks.specs.Lists.{Marks}
-use Rattle.field_checks.proofs.CodeLaws.{marks-turn}
-use borrow.Author.Rules.{rules}
 use Rattle.field_checks.proofs.tree.mark.Given as goal
 
 abbrev pub invariant-loop-u : goal.invariant-loop-u

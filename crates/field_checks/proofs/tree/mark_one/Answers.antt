@@ -2,7 +2,6 @@
 use native.Mathlib.Omega.{arith}
 use Rattle.numbers.specs.Lists.{at}
 use Rattle.field_checks.proofs.CodeLaws.{no-mark, far-mark, one-mark}
-use borrow.Author.Rules.{rules}
 use Rattle.field_checks.proofs.tree.mark_one.Goals as goal
 
 pub returns-then-p-u : goal.returns-then-p-u

@@ -1,7 +1,6 @@
 -- `field_checks::tree::node_good` meets its contract: the first test that decides is that of the definition.
 use mathlib.Core.Path.{sym, ◌∙◌}
 use borrow.Author.Tests.{le-ltb, lt-ltb}
-use borrow.Author.Rules.{rules}
 use Rattle.field_checks.proofs.tree.node_good.Goals as goal
 
 pub returns-then-not-parent_ok : goal.returns-then-not-parent_ok

@@ -1,6 +1,5 @@
 -- `field_checks::tree::parent_of` meets its contract: a number of a list of u32 fits an index.
 use native.Mathlib.Omega.{arith}
-use borrow.Author.Rules.{rules}
 use Rattle.field_checks.proofs.tree.parent_of.Goals as goal
 
 pub overflow_cast-result : goal.overflow_cast-result

@@ -1,6 +1,5 @@
 -- `field_checks::tree::parent_ok` meets its contract: each test that is taken decides a node's rule.
 use Rattle.field_checks.proofs.CodeLaws.{root-rule, low-rule, cell-rule, top-rule}
-use borrow.Author.Rules.{rules}
 use Rattle.field_checks.proofs.tree.parent_ok.Goals as goal
 
 pub returns-then-v-m : goal.returns-then-v-m

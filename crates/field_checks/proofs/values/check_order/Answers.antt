@@ -1,14 +1,11 @@
 -- `field_checks::values::check_order` meets its contract: the verdict is that of the cells from i on.
-use mathlib.Core.Path.{◌≡◌, sym, ◌∙◌}
-use Prim.Native.Nat.{◌≤◌, ◌-◌}
+use mathlib.Core.Path.{sym, ◌∙◌}
 use native.Mathlib.Nat.{sub-zero}
 use native.Mathlib.Omega.{arith}
 use lib.ListN.{length}
 use Rattle.numbers.specs.Lists.{at}
-use Rattle.numbers.specs.Checks.{first_from}
 use Rattle.numbers.proofs.CheckLaws.{first_on, first-here, first-none}
 use Rattle.qlt_spec.specs.Checks.{bounds_ordered, check_order}
-use borrow.Author.Rules.{rules}
 use Rattle.field_checks.proofs.values.check_order.Goals as goal
 
 pub loop-i-init : goal.loop-i-init

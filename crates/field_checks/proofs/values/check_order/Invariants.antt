@@ -1,15 +1,10 @@
 -- `field_checks::values::check_order` meets its contract: the verdict is that of the cells from i on.
-use mathlib.Core.Path.{◌≡◌, sym, ◌∙◌}
+use mathlib.Core.Path.{◌≡◌}
 use Prim.Native.Nat.{◌≤◌, ◌-◌}
-use native.Mathlib.Nat.{sub-zero}
-use native.Mathlib.Omega.{arith}
-use borrow.Author.Tests.{not-true, not-false}
 use lib.ListN.{length}
 use Rattle.numbers.specs.Lists.{at}
 use Rattle.numbers.specs.Checks.{first_from}
-use Rattle.numbers.proofs.CheckLaws.{first_on, first-here, first-none}
-use Rattle.qlt_spec.specs.Checks.{bounds_ordered, check_order}
-use borrow.Author.Rules.{rules}
+use Rattle.qlt_spec.specs.Checks.{bounds_ordered}
 use Rattle.field_checks.proofs.values.check_order.Given as goal
 
 abbrev pub invariant-loop-i : goal.invariant-loop-i

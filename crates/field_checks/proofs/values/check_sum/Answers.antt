@@ -3,7 +3,6 @@ use mathlib.Core.Path.{◌∙◌, ap}
 use lib.Dec.{leb}
 use Rattle.numbers.specs.Checks.{unless, max_total}
 use Rattle.qlt_spec.specs.Checks.{check_sum}
-use borrow.Author.Rules.{rules}
 use Rattle.field_checks.proofs.values.check_sum.Goals as goal
 
 pub returns : goal.returns

@@ -3,7 +3,6 @@ use mathlib.Core.Path.{◌≡◌, sym, ◌∙◌, ap}
 use lib.ListN.{length}
 use Rattle.numbers.proofs.CheckLaws.{on, stop, last}
 use Rattle.qlt_spec.specs.Checks.{check_order, check_values}
-use borrow.Author.Rules.{rules}
 use Rattle.field_checks.proofs.values.check_values.Goals as goal
 
 pub returns-in-Fail : goal.returns-in-Fail

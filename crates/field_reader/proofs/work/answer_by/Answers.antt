@@ -3,7 +3,6 @@ use mathlib.Core.Path.{sym, ap}
 use native.Mathlib.Omega.{arith}
 use Rattle.numbers.specs.Checks.{answered}
 use Rattle.files_spec.specs.ReadField.{sizes_of, read_tells}
-use borrow.Author.Rules.{rules}
 use Rattle.field_reader.proofs.work.answer_by.Goals as goal
 
 pub returns-in-Fail : goal.returns-in-Fail

@@ -1,6 +1,5 @@
 -- `field_reader::work::read_by` meets its contract: a verdict that passes has the lists read, and one that fails leaves them.
 use Rattle.numbers.proofs.CheckLaws.{after-pass, after-fail}
-use borrow.Author.Rules.{rules}
 use Rattle.field_reader.proofs.work.read_by.Goals as goal
 
 pub read_lists-requires : goal.read_lists-requires

@@ -11,7 +11,6 @@ use Rattle.files_spec.specs.FieldFile.{cell_table, field_blocks}
 use Rattle.files_spec.specs.ReadField.{file_cells, file_nodes, Measured, Room}
 use Rattle.files_spec.proofs.ReadLaws.{cell-fits}
 use Rattle.field_reader.proofs.Laws.{lists-are}
-use borrow.Author.Rules.{rules}
 use Rattle.field_reader.proofs.work.read_lists.Goals as goal
 
 -- what the sizes that are read allow

@@ -3,7 +3,6 @@ use mathlib.Core.Path.{◌≡◌, sym, ap}
 use native.Mathlib.Omega.{arith}
 use Rattle.numbers.specs.Lists.{at}
 use Rattle.field_writer.specs.Cells.{six_words}
-use borrow.Author.Rules.{rules}
 use Rattle.field_writer.proofs.cells.cell_word.Goals as goal
 
 pub returns-then-j-eq0 : goal.returns-then-j-eq0

@@ -1,16 +1,10 @@
 -- `field_writer::cells::put_blocks` meets its contract: the blocks before k stand in the buffer, the rest is as it was.
-use mathlib.Core.Path.{◌≡◌, refl, ap, ◌∙◌}
-use mathlib.Core.List.{List}
-use Prim.Native.Nat.{ℕ, ◌+◌, ◌*◌, ◌-◌, ◌≤◌}
-use native.Mathlib.Nat.{le_antisymm}
-use native.Mathlib.Omega.{arith}
+use mathlib.Core.Path.{◌≡◌}
+use Prim.Native.Nat.{◌*◌, ◌-◌, ◌≤◌}
 use lib.ListN.{length}
 use Rattle.numbers.specs.Lists.{at, written}
-use Rattle.blocks.specs.Blocks.{block_bytes}
-use Rattle.block_tables.specs.Tables.{table_words, table_bytes}
-use Rattle.block_tables.proofs.TableLaws.{block-some, table_none, table-next}
+use Rattle.block_tables.specs.Tables.{table_bytes}
 use Rattle.files_spec.specs.FieldFile.{cell_table}
-use Rattle.files_spec.proofs.ReadLaws.{cell-fits}
 use Rattle.field_writer.specs.Cells.{six_words}
 use Rattle.field_writer.proofs.cells.put_blocks.Given as goal
 

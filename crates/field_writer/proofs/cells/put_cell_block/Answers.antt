@@ -15,7 +15,6 @@ use Rattle.block_tables.proofs.TableLaws.{length-table_words}
 use Rattle.files_spec.specs.FieldFile.{cell_table}
 use Rattle.files_spec.proofs.ReadLaws.{cell-fits}
 use Rattle.field_writer.specs.Cells.{six_words}
-use borrow.Author.Rules.{rules}
 use Rattle.field_writer.proofs.cells.put_cell_block.Goals as goal
 use Rattle.field_writer.proofs.cells.put_cell_block.Lts as lts
 use Rattle.field_writer.proofs.cells.put_cell_block.Tie as tie

@@ -3,10 +3,9 @@ use mathlib.Core.Path.{◌∙◌, ap}
 use mathlib.Core.List.{[]}
 use Prim.Native.Nat.{◌*◌, ◌-◌}
 use Rattle.numbers.specs.Lists.{written}
-use Rattle.qlt_spec.specs.Field.{Lists, lists}
+use Rattle.qlt_spec.specs.Field.{lists}
 use Rattle.files_spec.specs.FieldFile.{cell_blocks}
 use Rattle.field_writer.proofs.Laws.{six-cells}
-use borrow.Author.Rules.{rules}
 use Rattle.field_writer.proofs.cells.put_signed.Goals as goal
 
 pub returns : goal.returns

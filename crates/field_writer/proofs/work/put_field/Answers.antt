@@ -3,10 +3,9 @@ use mathlib.Core.Path.{◌∙◌, ap}
 use Prim.Native.Nat.{◌+◌, ◌*◌, ◌-◌}
 use Rattle.numbers.specs.Lists.{at, written}
 use Rattle.block_tables.specs.Tables.{table_bytes, list_table}
-use Rattle.qlt_spec.specs.Field.{Lists, lists}
+use Rattle.qlt_spec.specs.Field.{lists}
 use Rattle.files_spec.specs.FieldFile.{cell_blocks, parent_blocks}
 use Rattle.files_spec.proofs.WriteFieldLaws.{cell_bytes, parent_bytes, field-written}
-use borrow.Author.Rules.{rules}
 use Rattle.field_writer.proofs.work.put_field.Goals as goal
 
 pub returns : goal.returns

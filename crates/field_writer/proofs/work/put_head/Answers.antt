@@ -5,7 +5,6 @@ use native.Mathlib.Omega.{arith}
 use borrow.Rule.Slice.PartMut.{put_mid}
 use Rattle.numbers.proofs.PartLaws.{put_back}
 use Rattle.blocks.proofs.BlockLaws.{length-block_bytes}
-use borrow.Author.Rules.{rules}
 use Rattle.field_writer.proofs.work.put_head.Goals as goal
 
 pub returns : goal.returns

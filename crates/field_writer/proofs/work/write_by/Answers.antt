@@ -10,7 +10,6 @@ use Rattle.qlt_spec.specs.Field.{lists}
 use Rattle.files_spec.specs.FieldFile.{field_blocks}
 use Rattle.files_spec.specs.WriteField.{FieldWriteCall, field_write_call, field_write_verdict, FieldWriteFits, field_write_tells}
 use Rattle.files_spec.proofs.WriteFieldLaws.{field-write-accepts}
-use borrow.Author.Rules.{rules}
 use Rattle.field_writer.proofs.work.write_by.Goals as goal
 
 -- a call whose verdict passes has room

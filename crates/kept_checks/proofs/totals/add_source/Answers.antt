@@ -6,7 +6,6 @@ use mir.Syntax.{w32, w64}
 use mir.Val.{SFits, to_z}
 use mir.Facts.{to_z-of_z, to_z_pos, sfits_widen}
 use Rattle.kept_checks.proofs.TotalLaws.{next_fits}
-use borrow.Author.Rules.{rules}
 use Rattle.kept_checks.proofs.totals.add_source.Goals as goal
 
 -- the parts as they are added

@@ -3,7 +3,6 @@ use mathlib.Core.Path.{◌∙◌, ap}
 use lib.Dec.{eqb}
 use Rattle.numbers.specs.Checks.{unless}
 use Rattle.kept_spec.specs.Step.{check_kept}
-use borrow.Author.Rules.{rules}
 use Rattle.kept_checks.proofs.totals.check_kept.Goals as goal
 
 pub returns : goal.returns

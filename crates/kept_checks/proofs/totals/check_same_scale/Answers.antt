@@ -2,7 +2,6 @@
 use mathlib.Core.Path.{◌∙◌, ap}
 use Rattle.numbers.specs.Checks.{unless}
 use Rattle.kept_spec.specs.Step.{check_same_scale}
-use borrow.Author.Rules.{rules}
 use Rattle.kept_checks.proofs.totals.check_same_scale.Goals as goal
 
 pub returns : goal.returns

@@ -15,7 +15,6 @@ use Rattle.qlt_spec.specs.Checks.{check_values, check_reach}
 use Rattle.kept_spec.specs.Step.{check_same_scale, check_kept}
 use Rattle.kept_checks.proofs.VerdictLaws.{on_both, stop-both}
 use Rattle.kept_checks.proofs.TotalLaws.{next-read}
-use borrow.Author.Rules.{rules}
 use Rattle.kept_checks.proofs.verdict.masses_verdict.Goals as goal
 use Rattle.kept_checks.proofs.verdict.masses_verdict.Lts as lts
 use Rattle.kept_checks.proofs.verdict.masses_verdict.Tie as tie

@@ -12,7 +12,6 @@ use Rattle.numbers.specs.declared.Checked.TheVariants.{Pass}
 use Rattle.numbers.specs.Lists.{sum}
 use Rattle.numbers.proofs.CheckLaws.{on, stop, last, both-assoc, both_first, count-decides}
 use Rattle.kept_spec.specs.Open.{open_verdict_with}
-use borrow.Author.Rules.{rules}
 use Rattle.kept_checks.proofs.verdict.open_verdict.Goals as goal
 use Rattle.kept_checks.proofs.verdict.open_verdict.Lts as lts
 use Rattle.kept_checks.proofs.verdict.open_verdict.Tie as tie

@@ -19,7 +19,6 @@ use Rattle.book_spec.specs.Book.{max_bytes}
 use Rattle.kept_spec.specs.Step.{StepCall, step_call, next, check_kept, step_verdict_with}
 use Rattle.kept_spec.proofs.StepLaws.{buffer, same, reach, of_book}
 use Rattle.kept_checks.proofs.VerdictLaws.{on_both, stop-both}
-use borrow.Author.Rules.{rules}
 use Rattle.kept_checks.proofs.verdict.step_verdict.Goals as goal
 use Rattle.kept_checks.proofs.verdict.step_verdict.Lts as lts
 use Rattle.kept_checks.proofs.verdict.step_verdict.Tie as tie

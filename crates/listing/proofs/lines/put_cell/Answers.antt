@@ -11,7 +11,6 @@ use Rattle.numbers.proofs.SignedLaws.{signed, about, one-part, minus-parts}
 use Rattle.text.specs.Text.{signed_number, space, newline}
 use Rattle.text.proofs.TextLaws.{then, number-few, signed-few}
 use Rattle.listing.specs.Listing.{cell_line}
-use borrow.Author.Rules.{rules}
 use Rattle.listing.proofs.lines.put_cell.Goals as goal
 
 pub returns : goal.returns

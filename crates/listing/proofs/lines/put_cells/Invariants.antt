@@ -1,16 +1,8 @@
 -- `listing::lines::put_cells` meets its contract: before cell i the lines of the cells below i are put, 27 bytes each at most.
-use mathlib.Core.Path.{◌≡◌, refl, ◌∙◌}
+use mathlib.Core.Path.{◌≡◌}
 use Prim.Native.Nat.{◌+◌, ◌*◌, ◌-◌, ◌≤◌}
-use native.Mathlib.Nat.{le_antisymm}
-use native.Mathlib.Numerals.{add-one}
-use native.Mathlib.Omega.{arith}
 use lib.ListN.{length}
-use mir.Syntax.{w32}
-use mir.Val.{to_z, of_z}
-use mir.ValLaws.{to_z-of_z}
-use Rattle.numbers.specs.Lists.{at_ℤ}
 use Rattle.text.specs.Text.{Put}
-use Rattle.text.proofs.TextLaws.{then, none}
 use Rattle.listing.specs.Listing.{cell_lines}
 use Rattle.listing.proofs.lines.put_cells.Given as goal
 

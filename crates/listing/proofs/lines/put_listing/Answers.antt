@@ -2,7 +2,6 @@
 use native.Mathlib.Omega.{arith}
 use Rattle.text.proofs.TextLaws.{then}
 use Rattle.listing.specs.Listing.{listing}
-use borrow.Author.Rules.{rules}
 use Rattle.listing.proofs.lines.put_listing.Goals as goal
 
 pub returns : goal.returns

@@ -5,7 +5,6 @@ use lib.IntN.{pos, ◌-ℤ◌}
 use mir.Syntax.{w64}
 use mir.Val.{SFits, to_z, of_z}
 use mir.ValLaws.{to_z-of_z}
-use borrow.Author.Rules.{rules}
 use Rattle.numbers.proofs.SignedLaws.{sub-fits, sub_read}
 use Rattle.numbers.proofs.arith.difference.Goals as goal
 

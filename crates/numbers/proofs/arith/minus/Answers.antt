@@ -7,7 +7,6 @@ use mir.Syntax.{w32, w64}
 use mir.Val.{SFits, to_z, of_z}
 use mir.ValLaws.{to_z-of_z, to_z_pos}
 use Rattle.numbers.proofs.SignedLaws.{signed, about, one-part, minus-parts, widened}
-use borrow.Author.Rules.{rules}
 use Rattle.numbers.proofs.arith.minus.Goals as goal
 
 -- what is computed, as a difference of the arguments; it fits

@@ -1,7 +1,6 @@
 -- `numbers::arith::signed` meets its contract: a number below 2 ^ 63 has the same bits signed and unsigned.
 use mir.Syntax.{w64}
 use mir.ValLaws.{to_z_pos}
-use borrow.Author.Rules.{rules}
 use Rattle.numbers.proofs.arith.signed.Goals as goal
 
 pub returns : goal.returns

@@ -1,6 +1,5 @@
 -- `numbers::checks::check_count` meets its contract: its test is the definition's.
 use mathlib.Core.Path.{◌∙◌, ap}
-use borrow.Author.Rules.{rules}
 use Rattle.numbers.specs.Checks.{unless, check_count}
 use Rattle.numbers.proofs.checks.check_count.Goals as goal
 

@@ -6,7 +6,6 @@ use lib.Signed.{le_z}
 use mir.Syntax.{w64}
 use mir.ValLaws.{to_z-of_z}
 use Rattle.numbers.specs.Checks.{unless, check_total, max_total}
-use borrow.Author.Rules.{rules}
 use Rattle.numbers.proofs.checks.check_total.Goals as goal
 
 pub returns : goal.returns

@@ -1,5 +1,4 @@
 -- `numbers::checks::unless` meets its contract: the test decides.
-use borrow.Author.Rules.{rules}
 use Rattle.numbers.proofs.checks.unless.Goals as goal
 
 pub returns-else-ok : goal.returns-else-ok

@@ -1,6 +1,5 @@
 -- `numbers::lists::above_at` meets its contract: an element fits 64 bits, so what is read is the element, and its part above 0 is below 2 ^ 63.
 use native.Mathlib.Omega.{arith}
-use borrow.Author.Rules.{rules}
 use Rattle.numbers.specs.Lists.{at_ℤ}
 use Rattle.numbers.proofs.SignedLaws.{read, about}
 use Rattle.numbers.proofs.lists.above_at.Goals as goal

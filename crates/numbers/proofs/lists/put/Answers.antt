@@ -5,7 +5,6 @@ use lib.ListN.{set}
 use mir.Syntax.{w64}
 use mir.Val.{to_z, of_z}
 use mir.ValLaws.{to_z_pos}
-use borrow.Author.Rules.{rules}
 use Rattle.numbers.proofs.lists.put.Goals as goal
 
 pub returns : goal.returns

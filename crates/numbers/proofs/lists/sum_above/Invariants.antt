@@ -1,14 +1,10 @@
 -- `numbers::lists::sum_above` meets its contract: the sum so far is that of the elements passed, or 2 ^ 31 if that is more.
 use mathlib.Core.Path.{◌≡◌}
 use Prim.Native.Nat.{◌≤◌, ◌-◌, ◌^◌, min}
-use native.Mathlib.Omega.{arith}
-use native.Mathlib.Numerals.{add-one}
 use lib.ListN.{length}
-use borrow.Author.Rules.{rules}
 use Rattle.numbers.specs.Sums.{ℕ_adds, sum_to}
 use Rattle.numbers.specs.Lists.{at_ℤ}
 use Rattle.numbers.specs.Signed.{over}
-use Rattle.numbers.proofs.SumLaws.{sum_to-next}
 use Rattle.numbers.proofs.lists.sum_above.Given as goal
 
 abbrev pub invariant-loop-i : goal.invariant-loop-i

@@ -1,13 +1,11 @@
 -- `numbers::lists::sum_of` meets its contract: the sum so far is that of the elements passed, and less than 2 ^ 32 for each of them.
 use mathlib.Core.Path.{◌≡◌}
-use Prim.Native.Nat.{◌*◌, ◌≤◌, ◌-◌}
 use native.Mathlib.Omega.{arith}
 use native.Mathlib.Numerals.{add-one}
 use lib.ListN.{length}
 use Rattle.numbers.specs.Sums.{ℕ_adds, sum_to}
 use Rattle.numbers.specs.Lists.{at}
 use Rattle.numbers.proofs.SumLaws.{sum_to-next}
-use borrow.Author.Rules.{rules}
 use Rattle.numbers.proofs.lists.sum_of.Goals as goal
 
 pub loop-i-init : goal.loop-i-init

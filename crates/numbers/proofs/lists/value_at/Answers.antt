@@ -1,6 +1,5 @@
 -- `numbers::lists::value_at` meets its contract: a number of a list of u32 is below 2 ^ 32.
 use native.Mathlib.Omega.{arith}
-use borrow.Author.Rules.{rules}
 use Rattle.numbers.proofs.lists.value_at.Goals as goal
 
 pub overflow_cast-result : goal.overflow_cast-result

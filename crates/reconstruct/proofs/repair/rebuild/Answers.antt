@@ -4,7 +4,6 @@ use mathlib.Core.Path.{sym, ◌∙◌}
 use Rattle.qlt_spec.specs.Field.{lists, attainable, below, above}
 use Rattle.qlt_spec.specs.Operation.{reconstruct_call}
 use Rattle.reconstruct.proofs.RebuildLaws.{solvable, rebuilt, number-0, number-1, number-2}
-use borrow.Author.Rules.{rules}
 use Rattle.reconstruct.proofs.repair.rebuild.Goals as goal
 
 pub solve-requires : goal.solve-requires

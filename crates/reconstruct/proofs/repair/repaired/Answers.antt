@@ -2,7 +2,6 @@
 use Rattle.qlt_spec.specs.Field.{lists}
 use Rattle.qlt_spec.specs.Operation.{reconstruct_call}
 use Rattle.reconstruct.proofs.RebuildLaws.{outcome-found, repaired}
-use borrow.Author.Rules.{rules}
 use Rattle.reconstruct.proofs.repair.repaired.Goals as goal
 
 pub rebuild-moved-requires : goal.rebuild-moved-requires

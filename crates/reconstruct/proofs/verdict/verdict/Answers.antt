@@ -5,7 +5,6 @@ use Rattle.numbers.proofs.CheckLaws.{on, stop, last}
 use Rattle.qlt_spec.specs.Field.{lists}
 use Rattle.qlt_spec.specs.Operation.{reconstruct_call, reconstruct_verdict}
 use Rattle.field_checks.proofs.CodeLaws.{sized}
-use borrow.Author.Rules.{rules}
 use Rattle.reconstruct.proofs.verdict.verdict.Goals as goal
 
 pub returns-in-Fail : goal.returns-in-Fail

@@ -3,7 +3,6 @@ use mathlib.Core.Path.{sym, ◌∙◌}
 use Rattle.qlt_spec.specs.Field.{lists}
 use Rattle.qlt_spec.specs.Operation.{reconstruct_call, repair, reconstruct_tells}
 use Rattle.qlt_spec.proofs.OperationLaws.{reconstruct-accepts, contract-refused, contract-done}
-use borrow.Author.Rules.{rules}
 use Rattle.reconstruct.proofs.work.reconstruct_by.Goals as goal
 
 pub returns-in-Fail : goal.returns-in-Fail

@@ -3,7 +3,6 @@ use mathlib.Core.Path.{sym, ap, ◌∙◌, subst}
 use Prim.Native.Nat.{ℕ, ◌+◌, ◌/◌, ◌≤◌}
 use native.Mathlib.Nat.{mod-le, div-le_self}
 use native.Mathlib.Omega.{arith}
-use borrow.Author.Rules.{rules}
 use Rattle.doubles_spec.specs.Forms.{added_nearest}
 use Rattle.doubles_spec.specs.declared.Rest.{Rest}
 use Rattle.doubles_spec.proofs.FieldLaws.{nearest-le, closest-is}

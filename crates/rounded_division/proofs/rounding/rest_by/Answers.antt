@@ -2,7 +2,6 @@
 use mathlib.Core.Path.{sym}
 use Prim.Native.Nat.{Ordering}
 use native.Mathlib.Omega.{arith}
-use borrow.Author.Rules.{rules}
 use Rattle.doubles_spec.proofs.Fractions.{left-none, left-some}
 use Rattle.rounded_division.proofs.rounding.rest_by.Goals as goal
 

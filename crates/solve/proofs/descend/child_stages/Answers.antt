@@ -1,11 +1,7 @@
 -- `solve::descend::child_stages` meets its contract: the descent stops above the parent, so that it is the next node to be split
 -- (`next-splitting`), and its split is watched (`child-watched`).
 use mathlib.Core.Path.{sym}
-use Prim.Native.Nat.{◌+◌, ◌≤◌, ◌<◌}
 use native.Mathlib.Omega.{arith}
-use borrow.Author.Rules.{rules}
-use Rattle.numbers.specs.Lists.{at}
-use Rattle.solve_spec.specs.Descent.{Planned}
 use Rattle.solve_spec.proofs.DescentLaws.{up-inner, next-splitting, child-watched}
 use Rattle.solve.proofs.descend.child_stages.Goals as goal
 

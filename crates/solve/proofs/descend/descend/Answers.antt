@@ -2,13 +2,9 @@
 -- (`down-start`, `down_turn`); at k all inner nodes from there on are split (`down_to`). What is
 -- shared out stays below 2 ^ 42 (`shared-small`, `deficit-small`).
 use mathlib.Core.Path.{◌∙◌, ap}
-use Prim.Native.Nat.{◌≤◌}
 use native.Mathlib.Omega.{arith}
-use borrow.Author.Rules.{rules}
 use lib.IntN.{nat_abs}
-use Rattle.numbers.specs.Lists.{at}
 use Rattle.scratch_spec.proofs.NodeLaws.{deficit-small, deficit-read}
-use Rattle.solve_spec.specs.Descent.{Planned, DescendState}
 use Rattle.solve_spec.proofs.DescentLaws.{valid-one, planned-same, down-start, down-splitting, shared-small, down_turn, down_to}
 use Rattle.solve.proofs.descend.descend.Goals as goal
 

@@ -1,14 +1,7 @@
 -- `solve::descend::link` meets its contract: `LinkState` holds from turn to turn (`link_start`, `link-turn`), and at 0 all nodes are
 -- linked. A node's parent is below m, so every row is in the scratch.
-use mathlib.Core.Path.{◌≡◌, refl}
-use mathlib.Core.List.{List}
+use mathlib.Core.Path.{refl}
 use native.Mathlib.Omega.{arith}
-use borrow.Author.Rules.{rules}
-use lib.IntN.{ℤ}
-use lib.ListN.{length}
-use Rattle.numbers.specs.Lists.{at}
-use Rattle.scratch_spec.specs.Columns.{FIRST, InRow}
-use Rattle.solve_spec.specs.Descent.{LinkState}
 use Rattle.solve_spec.proofs.LinkLaws.{link_start, node_row, parent_row, first-most, link-turn, link-end}
 use Rattle.solve.proofs.descend.link.Goals as goal
 

@@ -4,7 +4,7 @@ use mathlib.Core.Path.{sym, ◌∙◌, ap, subst}
 use mir.Syntax.{w64}
 use mir.Val.{SFits, to_z, of_z}
 use mir.ValLaws.{to_z-of_z}
-use borrow.Author.Rules.{rules, sfits_of}
+use borrow.Author.Rules.{sfits_of}
 use Rattle.scratch_spec.specs.Columns.{Storable, Stored}
 use Rattle.solve_spec.proofs.GatherLaws.{sum-read}
 use Rattle.solve.proofs.load.add_up.Goals as goal

@@ -1,6 +1,5 @@
 -- `solve::load::change` meets its contract: the sum over the cells passed; 512 of them, each below 2 ^ 33, do not overflow.
 use mathlib.Core.Path.{◌≡◌, refl, ◌∙◌, ap}
-use Prim.Native.Nat.{◌*◌, ◌^◌, ◌-◌, ◌≤◌}
 use native.Mathlib.Omega.{arith}
 use lib.IntN.{pos, nat_abs, ◌-ℤ◌}
 use lib.ListN.{length}
@@ -9,7 +8,6 @@ use mir.ValLaws.{to_z-of_z}
 use Rattle.numbers.specs.Sums.{ℕ_adds, sum_to}
 use Rattle.numbers.specs.Lists.{at, at_ℤ}
 use Rattle.solve_spec.proofs.GatherLaws.{sum-on}
-use borrow.Author.Rules.{rules}
 use Rattle.solve.proofs.load.change.Goals as goal
 
 pub loop-c-init : goal.loop-c-init

@@ -1,15 +1,10 @@
 -- `solve::load::change` meets its contract: the sum over the cells passed; 512 of them, each below 2 ^ 33, do not overflow.
-use mathlib.Core.Path.{◌≡◌, refl, ◌∙◌, ap}
+use mathlib.Core.Path.{◌≡◌}
 use Prim.Native.Nat.{◌*◌, ◌^◌, ◌-◌, ◌≤◌}
-use native.Mathlib.Omega.{arith}
 use lib.IntN.{pos, nat_abs, ◌-ℤ◌}
 use lib.ListN.{length}
-use mir.Syntax.{w32}
-use mir.ValLaws.{to_z-of_z}
 use Rattle.numbers.specs.Sums.{ℕ_adds, sum_to}
 use Rattle.numbers.specs.Lists.{at, at_ℤ}
-use Rattle.solve_spec.proofs.GatherLaws.{sum-on}
-use borrow.Author.Rules.{rules}
 use Rattle.solve.proofs.load.change.Given as goal
 
 abbrev pub invariant-loop-c : goal.invariant-loop-c

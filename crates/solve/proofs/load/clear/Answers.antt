@@ -1,13 +1,11 @@
 -- `solve::load::clear` meets its contract: the numbers passed are 0, the others as they were.
 use mathlib.Core.Path.{◌≡◌, refl, ◌∙◌, ap}
 use mathlib.Core.List.{List}
-use Prim.Native.Nat.{◌-◌, ◌≤◌}
 use native.Mathlib.Omega.{arith}
 use lib.IntN.{ℤ, pos}
-use lib.ListN.{length, set, length-set}
+use lib.ListN.{set, length-set}
 use Rattle.qlt_spec.specs.Operation.{cleared}
 use Rattle.solve_spec.proofs.GatherLaws.{cleared-none, cleared-next}
-use borrow.Author.Rules.{rules}
 use Rattle.solve.proofs.load.clear.Goals as goal
 
 pub loop-i-init : goal.loop-i-init

@@ -1,13 +1,8 @@
 -- `solve::load::clear` meets its contract: the numbers passed are 0, the others as they were.
-use mathlib.Core.Path.{◌≡◌, refl, ◌∙◌, ap}
-use mathlib.Core.List.{List}
+use mathlib.Core.Path.{◌≡◌}
 use Prim.Native.Nat.{◌-◌, ◌≤◌}
-use native.Mathlib.Omega.{arith}
-use lib.IntN.{ℤ, pos}
-use lib.ListN.{length, set, length-set}
+use lib.ListN.{length}
 use Rattle.qlt_spec.specs.Operation.{cleared}
-use Rattle.solve_spec.proofs.GatherLaws.{cleared-none, cleared-next}
-use borrow.Author.Rules.{rules}
 use Rattle.solve.proofs.load.clear.Given as goal
 
 abbrev pub invariant-loop-i : goal.invariant-loop-i

@@ -1,14 +1,12 @@
 -- `solve::load::fill` meets its contract: the rows passed have their elements.
 use mathlib.Core.Path.{◌≡◌, refl, ap}
 use mathlib.Core.Bool.{true}
-use Prim.Native.Nat.{◌-◌, ◌≤◌, ◌<◌}
+use Prim.Native.Nat.{◌<◌}
 use native.Mathlib.Omega.{arith}
 use lib.IntN.{pos}
 use lib.ListN.{length}
 use Rattle.numbers.specs.Lists.{at}
-use Rattle.scratch_spec.specs.Columns.{Laid}
 use Rattle.scratch_spec.proofs.ColumnLaws.{in_row, laid-start, laid_next}
-use borrow.Author.Rules.{rules}
 use Rattle.solve.proofs.load.fill.Goals as goal
 
 pub loop-u-init : goal.loop-u-init

@@ -1,14 +1,10 @@
 -- `solve::load::fill` meets its contract: the rows passed have their elements.
-use mathlib.Core.Path.{◌≡◌, refl, ap}
 use mathlib.Core.Bool.{true}
-use Prim.Native.Nat.{◌-◌, ◌≤◌, ◌<◌}
-use native.Mathlib.Omega.{arith}
+use Prim.Native.Nat.{◌-◌, ◌≤◌}
 use lib.IntN.{pos}
 use lib.ListN.{length}
 use Rattle.numbers.specs.Lists.{at}
 use Rattle.scratch_spec.specs.Columns.{Laid}
-use Rattle.scratch_spec.proofs.ColumnLaws.{in_row, laid-start, laid_next}
-use borrow.Author.Rules.{rules}
 use Rattle.solve.proofs.load.fill.Given as goal
 
 abbrev pub invariant-loop-u : goal.invariant-loop-u

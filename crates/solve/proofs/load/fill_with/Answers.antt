@@ -1,12 +1,9 @@
 -- `solve::load::fill_with` meets its contract: the rows passed have x.
 use mathlib.Core.Path.{◌≡◌, refl}
 use mathlib.Core.Bool.{true}
-use Prim.Native.Nat.{◌-◌, ◌≤◌}
 use native.Mathlib.Omega.{arith}
 use lib.IntN.{pos}
-use Rattle.scratch_spec.specs.Columns.{Laid}
 use Rattle.scratch_spec.proofs.ColumnLaws.{in_row, laid-start, laid_next}
-use borrow.Author.Rules.{rules}
 use Rattle.solve.proofs.load.fill_with.Goals as goal
 
 pub loop-u-init : goal.loop-u-init

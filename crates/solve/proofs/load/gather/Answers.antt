@@ -1,12 +1,9 @@
 -- `solve::load::gather` meets its contract: the inner nodes start at 0; before the turn at v each place has its own value and the sums of
 -- its children below v, so v's place is complete when it is added to its parent's.
 use mathlib.Core.Path.{◌∙◌}
-use Prim.Native.Nat.{◌-◌, ◌≤◌, ◌<◌}
+use Prim.Native.Nat.{◌-◌, ◌<◌}
 use native.Mathlib.Omega.{arith}
-use Rattle.numbers.specs.Lists.{at}
-use Rattle.scratch_spec.specs.Columns.{col}
-use Rattle.solve_spec.proofs.GatherLaws.{GatherState, gather-start, gather-adds, gather-turn, gather-end}
-use borrow.Author.Rules.{rules}
+use Rattle.solve_spec.proofs.GatherLaws.{gather-start, gather-adds, gather-turn, gather-end}
 use Rattle.solve.proofs.load.gather.Goals as goal
 
 pub loop-v-init : goal.loop-v-init

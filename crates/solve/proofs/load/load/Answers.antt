@@ -4,7 +4,6 @@ use lib.ListN.{length}
 use Rattle.numbers.specs.Lists.{at}
 use Rattle.numbers.proofs.SumLaws.{sum_to-summand}
 use Rattle.solve_spec.proofs.GatherLaws.{load-gathering, load-end}
-use borrow.Author.Rules.{rules}
 use Rattle.solve.proofs.load.load.Goals as goal
 
 pub fill-requires : goal.fill-requires

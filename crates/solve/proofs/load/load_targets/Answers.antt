@@ -2,7 +2,6 @@
 use mathlib.Core.Path.{refl}
 use native.Mathlib.Omega.{arith}
 use Rattle.solve_spec.proofs.GatherLaws.{load-gathering, load-end, targets-small}
-use borrow.Author.Rules.{rules}
 use Rattle.solve.proofs.load.load_targets.Goals as goal
 
 pub gather-requires : goal.gather-requires

@@ -6,7 +6,6 @@ use mir.Syntax.{w32, w64}
 use mir.Val.{to_z, of_z}
 use mir.ValLaws.{to_z-of_z}
 use Rattle.solve_spec.proofs.GatherLaws.{off-size}
-use borrow.Author.Rules.{rules}
 use Rattle.solve.proofs.load.off.Goals as goal
 
 pub returns : goal.returns

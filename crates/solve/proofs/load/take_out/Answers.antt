@@ -1,13 +1,11 @@
 -- `solve::load::take_out` meets its contract: the masses of the rows passed are written over the list.
 use mathlib.Core.Path.{◌≡◌, refl, ◌∙◌}
-use Prim.Native.Nat.{ℕ, ◌-◌, ◌≤◌}
+use Prim.Native.Nat.{ℕ}
 use native.Mathlib.Omega.{arith}
 use lib.ListN.{length, length-set}
-use Rattle.numbers.specs.Lists.{list_to, written}
 use Rattle.numbers.proofs.ListLaws.{written_none, next-entry, all-entries}
 use Rattle.scratch_spec.specs.Columns.{MASS, num}
 use Rattle.scratch_spec.proofs.ColumnLaws.{in_row}
-use borrow.Author.Rules.{rules}
 use Rattle.solve.proofs.load.take_out.Goals as goal
 
 pub loop-u-init : goal.loop-u-init

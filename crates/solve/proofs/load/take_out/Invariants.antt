@@ -1,13 +1,9 @@
 -- `solve::load::take_out` meets its contract: the masses of the rows passed are written over the list.
-use mathlib.Core.Path.{◌≡◌, refl, ◌∙◌}
-use Prim.Native.Nat.{ℕ, ◌-◌, ◌≤◌}
-use native.Mathlib.Omega.{arith}
-use lib.ListN.{length, length-set}
+use mathlib.Core.Path.{◌≡◌}
+use Prim.Native.Nat.{◌-◌, ◌≤◌}
+use lib.ListN.{length}
 use Rattle.numbers.specs.Lists.{list_to, written}
-use Rattle.numbers.proofs.ListLaws.{written_none, next-entry, all-entries}
 use Rattle.scratch_spec.specs.Columns.{MASS, num}
-use Rattle.scratch_spec.proofs.ColumnLaws.{in_row}
-use borrow.Author.Rules.{rules}
 use Rattle.solve.proofs.load.take_out.Given as goal
 
 abbrev pub invariant-loop-u : goal.invariant-loop-u

@@ -8,7 +8,6 @@ use mir.Val.{SFits}
 use mir.ValLaws.{to_z-of_z}
 use Rattle.numbers.specs.Lists.{at_ℤ}
 use Rattle.numbers.proofs.SignedLaws.{widened, about, one-part}
-use borrow.Author.Rules.{rules}
 use Rattle.solve.proofs.load.target_at.Goals as goal
 
 pub overflow_cast-result : goal.overflow_cast-result

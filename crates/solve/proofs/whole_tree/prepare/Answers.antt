@@ -2,7 +2,6 @@
 use mathlib.Core.Path.{refl}
 use native.Mathlib.Omega.{arith}
 use Rattle.solve_spec.proofs.SolveLaws.{root_in, total-small, valid-for, lows-small, highs-small, weights-small, prepared}
-use borrow.Author.Rules.{rules}
 use Rattle.solve.proofs.whole_tree.prepare.Goals as goal
 
 pub load-requires : goal.load-requires

@@ -1,9 +1,7 @@
 -- `solve::whole_tree::solve` meets its contract: the columns are those of the tree, so the splits leave its masses (`solved`).
-use mathlib.Core.Path.{◌≡◌}
 use native.Mathlib.Omega.{arith}
 use lib.ListN.{length}
 use Rattle.solve_spec.proofs.SolveLaws.{descending, long-end, mass-fits, masses-long, solved}
-use borrow.Author.Rules.{rules}
 use Rattle.solve.proofs.whole_tree.solve.Goals as goal
 
 pub descend-shared-requires : goal.descend-shared-requires

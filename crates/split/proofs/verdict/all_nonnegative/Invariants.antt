@@ -1,14 +1,11 @@
 -- `split::verdict::all_nonnegative` meets its contract: the answer is that of the places from u on.
-use mathlib.Core.Path.{◌≡◌, sym, ◌∙◌}
+use mathlib.Core.Path.{◌≡◌}
 use Prim.Native.Nat.{◌≤◌, ◌-◌}
-use native.Mathlib.Nat.{sub-zero}
-use native.Mathlib.Omega.{arith}
 use lib.IntN.{pos}
 use lib.Signed.{le_z}
 use lib.ListN.{length}
 use Rattle.numbers.specs.Lists.{at_ℤ}
 use Rattle.numbers.specs.Checks.{every_from}
-use Rattle.numbers.proofs.CheckLaws.{every-on, every_here, every-none}
 use Rattle.split.proofs.verdict.all_nonnegative.Given as goal
 
 abbrev pub invariant-loop-u : goal.invariant-loop-u

@@ -3,7 +3,6 @@ use mathlib.Core.Path.{◌∙◌, ap}
 use Rattle.numbers.specs.Checks.{unless}
 use Rattle.caas_spec.specs.Operation.{check_highs}
 use Rattle.split.proofs.CheckLaws.{fits-is}
-use borrow.Author.Rules.{rules}
 use Rattle.split.proofs.verdict.check_highs.Goals as goal
 
 pub returns : goal.returns

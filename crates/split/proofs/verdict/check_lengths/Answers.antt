@@ -1,6 +1,5 @@
 -- `split::verdict::check_lengths` meets its contract: four lengths, each checked with the number 3, are one check of all.
 use Rattle.split.proofs.CheckLaws.{lengths-is}
-use borrow.Author.Rules.{rules}
 use Rattle.split.proofs.verdict.check_lengths.Goals as goal
 
 pub returns : goal.returns

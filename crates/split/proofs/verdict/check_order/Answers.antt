@@ -1,10 +1,8 @@
 -- `split::verdict::check_order` meets its contract: the verdict is that of the places from u on.
-use mathlib.Core.Path.{◌≡◌, sym, ◌∙◌}
-use Prim.Native.Nat.{◌≤◌, ◌-◌}
+use mathlib.Core.Path.{sym, ◌∙◌}
 use native.Mathlib.Nat.{sub-zero}
 use native.Mathlib.Omega.{arith}
 use lib.ListN.{length}
-use Rattle.numbers.specs.Checks.{first_from}
 use Rattle.numbers.proofs.CheckLaws.{first_on, first-here, first-none}
 use Rattle.caas_spec.specs.Operation.{ordered_at, check_split_order}
 use Rattle.split.proofs.verdict.check_order.Goals as goal

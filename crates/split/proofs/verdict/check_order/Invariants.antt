@@ -1,12 +1,9 @@
 -- `split::verdict::check_order` meets its contract: the verdict is that of the places from u on.
-use mathlib.Core.Path.{◌≡◌, sym, ◌∙◌}
+use mathlib.Core.Path.{◌≡◌}
 use Prim.Native.Nat.{◌≤◌, ◌-◌}
-use native.Mathlib.Nat.{sub-zero}
-use native.Mathlib.Omega.{arith}
 use lib.ListN.{length}
 use Rattle.numbers.specs.Checks.{first_from}
-use Rattle.numbers.proofs.CheckLaws.{first_on, first-here, first-none}
-use Rattle.caas_spec.specs.Operation.{ordered_at, check_split_order}
+use Rattle.caas_spec.specs.Operation.{ordered_at}
 use Rattle.split.proofs.verdict.check_order.Given as goal
 
 abbrev pub invariant-loop-u : goal.invariant-loop-u

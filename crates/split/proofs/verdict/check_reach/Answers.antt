@@ -1,13 +1,11 @@
 -- `split::verdict::check_reach` meets its contract: both sums fit, so what was added up is the sum.
 use mathlib.Core.Path.{◌∙◌, ap, ap₂}
-use mathlib.Core.Bool.{◌&&◌}
 use lib.Signed.{le_z}
 use mir.Syntax.{w64}
 use mir.ValLaws.{to_z-of_z}
 use Rattle.numbers.specs.Checks.{unless}
 use Rattle.caas_spec.specs.Operation.{sum_ℤ, check_split_reach}
 use Rattle.split.proofs.CheckLaws.{read-sum}
-use borrow.Author.Rules.{rules}
 use Rattle.split.proofs.verdict.check_reach.Goals as goal
 
 pub returns : goal.returns

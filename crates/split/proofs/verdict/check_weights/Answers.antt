@@ -1,10 +1,8 @@
 -- `split::verdict::check_weights` meets its contract: where no weight is below 0, the sum of what they have above 0 is their sum.
 use mathlib.Core.Path.{◌∙◌, ap, ap₂}
-use mathlib.Core.Bool.{◌&&◌}
 use Rattle.numbers.specs.Checks.{unless}
 use Rattle.caas_spec.specs.Operation.{check_weights}
 use Rattle.split.proofs.CheckLaws.{weights-fit}
-use borrow.Author.Rules.{rules}
 use Rattle.split.proofs.verdict.check_weights.Goals as goal
 
 pub returns : goal.returns

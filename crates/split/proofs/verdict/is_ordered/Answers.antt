@@ -5,7 +5,6 @@ use lib.IntN.{pos}
 use lib.Signed.{le_z}
 use mir.Syntax.{w64}
 use mir.ValLaws.{to_z-of_z}
-use borrow.Author.Rules.{rules}
 use Rattle.split.proofs.verdict.is_ordered.Goals as goal
 
 pub returns : goal.returns

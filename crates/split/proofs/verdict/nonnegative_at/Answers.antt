@@ -4,7 +4,6 @@ use lib.IntN.{pos}
 use lib.Signed.{le_z}
 use Rattle.numbers.specs.Lists.{at_ℤ}
 use Rattle.numbers.proofs.SignedLaws.{read_back}
-use borrow.Author.Rules.{rules}
 use Rattle.split.proofs.verdict.nonnegative_at.Goals as goal
 
 pub returns : goal.returns

@@ -4,7 +4,6 @@ use lib.Dec.{leb}
 use Rattle.numbers.specs.Checks.{max_total}
 use Rattle.split.specs.Sums.{sum_over}
 use Rattle.split.proofs.CheckLaws.{stopped}
-use borrow.Author.Rules.{rules}
 use Rattle.split.proofs.verdict.sum_fits.Goals as goal
 
 pub returns : goal.returns

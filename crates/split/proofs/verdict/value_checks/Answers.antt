@@ -1,14 +1,11 @@
 -- `split::verdict::value_checks` meets its contract: each check counts on those before it.
-use mathlib.Core.Path.{◌≡◌, sym, ◌∙◌, ap}
+use mathlib.Core.Path.{sym, ◌∙◌, ap}
 use lib.ListN.{length}
 use mir.Syntax.{w64}
 use mir.ValLaws.{to_z-of_z}
-use Rattle.numbers.specs.declared.Checked.TheVariants.{Pass}
 use Rattle.numbers.proofs.CheckLaws.{on, stop, last}
-use Rattle.caas_spec.specs.Operation.{check_split_order, check_highs, check_weights, check_split_reach}
-use Rattle.split.specs.Sums.{Summable}
+use Rattle.caas_spec.specs.Operation.{check_highs, check_weights, check_split_reach}
 use Rattle.split.proofs.CheckLaws.{highs-nonnegative, highs-summable, lows-summable}
-use borrow.Author.Rules.{rules}
 use Rattle.split.proofs.verdict.value_checks.Goals as goal
 
 pub returns-in-Fail : goal.returns-in-Fail

@@ -1,17 +1,13 @@
 -- `split::verdict::verdict` meets its contract: the checks of lengths, then those of values.
-use mathlib.Core.Path.{◌≡◌, sym, ◌∙◌, ap₂}
-use mathlib.Core.List.{List}
+use mathlib.Core.Path.{sym, ◌∙◌, ap₂}
 use native.Mathlib.Omega.{arith}
 use lib.ListN.{length}
 use mir.Syntax.{w64}
 use mir.ValLaws.{to_z-of_z}
-use Rattle.numbers.specs.declared.Checked.{Checked}
-use Rattle.numbers.specs.declared.Checked.TheVariants.{Pass}
 use Rattle.numbers.specs.Checks.{first}
 use Rattle.numbers.proofs.CheckLaws.{on, stop, first-append}
 use Rattle.caas_spec.specs.Operation.{split_shape_checks, split_value_checks, split_verdict}
 use Rattle.caas_spec.proofs.OperationLaws.{shape-passed}
-use borrow.Author.Rules.{rules}
 use Rattle.split.proofs.verdict.verdict.Goals as goal
 
 pub returns-in-Fail : goal.returns-in-Fail

@@ -1,14 +1,12 @@
 -- `split::work::copy_masses` meets its contract: the masses of the rows passed are written over the list.
 use mathlib.Core.Path.{◌≡◌, refl, ◌∙◌, ap}
-use Prim.Native.Nat.{ℕ, ◌-◌, ◌≤◌}
+use Prim.Native.Nat.{ℕ}
 use native.Mathlib.Omega.{arith}
 use lib.IntN.{ℤ, pos}
 use lib.ListN.{length}
-use Rattle.numbers.specs.Lists.{list_to, written}
 use Rattle.numbers.proofs.ListLaws.{written_none, length-written, next-entry, all-entries}
 use Rattle.scratch_spec.specs.Columns.{MASS, num}
 use Rattle.scratch_spec.proofs.ColumnLaws.{in_row}
-use borrow.Author.Rules.{rules}
 use Rattle.split.proofs.work.copy_masses.Goals as goal
 
 long : (c : goal.In-loop-u) → length c.loop-u.masses ≡ length c.args.masses.now

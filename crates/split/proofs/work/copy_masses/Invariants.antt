@@ -1,14 +1,10 @@
 -- `split::work::copy_masses` meets its contract: the masses of the rows passed are written over the list.
-use mathlib.Core.Path.{◌≡◌, refl, ◌∙◌, ap}
-use Prim.Native.Nat.{ℕ, ◌-◌, ◌≤◌}
-use native.Mathlib.Omega.{arith}
-use lib.IntN.{ℤ, pos}
+use mathlib.Core.Path.{◌≡◌}
+use Prim.Native.Nat.{◌-◌, ◌≤◌}
+use lib.IntN.{pos}
 use lib.ListN.{length}
 use Rattle.numbers.specs.Lists.{list_to, written}
-use Rattle.numbers.proofs.ListLaws.{written_none, length-written, next-entry, all-entries}
 use Rattle.scratch_spec.specs.Columns.{MASS, num}
-use Rattle.scratch_spec.proofs.ColumnLaws.{in_row}
-use borrow.Author.Rules.{rules}
 use Rattle.split.proofs.work.copy_masses.Given as goal
 
 abbrev pub invariant-loop-u : goal.invariant-loop-u

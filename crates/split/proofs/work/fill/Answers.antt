@@ -1,16 +1,14 @@
 -- `split::work::fill` meets its contract: the rows passed have their elements.
 use mathlib.Core.Path.{◌≡◌, refl, sym, subst}
 use mathlib.Core.Bool.{true}
-use Prim.Native.Nat.{◌-◌, ◌≤◌}
 use native.Mathlib.Omega.{arith}
 use lib.ListN.{length}
 use mir.Syntax.{w64}
 use mir.Val.{to_z, of_z}
 use Rattle.numbers.specs.Lists.{at_ℤ}
 use Rattle.numbers.proofs.SignedLaws.{read_back}
-use Rattle.scratch_spec.specs.Columns.{Storable, Laid}
+use Rattle.scratch_spec.specs.Columns.{Storable}
 use Rattle.scratch_spec.proofs.ColumnLaws.{in_row, laid-start, laid_next}
-use borrow.Author.Rules.{rules}
 use Rattle.split.proofs.work.fill.Goals as goal
 
 pub loop-u-init : goal.loop-u-init

@@ -1,12 +1,9 @@
 -- `split::work::link` meets its contract: the rows passed lead to the next.
 use mathlib.Core.Path.{◌≡◌, refl, ap}
 use mathlib.Core.Bool.{true}
-use Prim.Native.Nat.{◌+◌, ◌-◌, ◌≤◌}
 use native.Mathlib.Omega.{arith}
 use lib.IntN.{pos}
-use Rattle.scratch_spec.specs.Columns.{NEXT, Laid}
 use Rattle.scratch_spec.proofs.ColumnLaws.{in_row, laid-start, laid_next}
-use borrow.Author.Rules.{rules}
 use Rattle.split.proofs.work.link.Goals as goal
 
 pub loop-u-init : goal.loop-u-init

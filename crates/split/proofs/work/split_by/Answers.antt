@@ -1,13 +1,11 @@
 -- `split::work::split_by` meets its contract: a verdict that passes fits.
-use mathlib.Core.Path.{◌≡◌, sym, ◌∙◌, ap, subst}
+use mathlib.Core.Path.{sym, ◌∙◌, ap, subst}
 use native.Mathlib.Omega.{arith}
 use lib.IntN.{ℤ}
 use mir.Syntax.{w64}
-use mir.Val.{to_z, of_z}
 use mir.ValLaws.{to_z-of_z}
 use Rattle.caas_spec.specs.Operation.{SplitCall, split_call, SplitFits, split_masses, split_deficit}
 use Rattle.caas_spec.proofs.OperationLaws.{split-accepts, split-deficit-read, contract-done, contract-refused}
-use borrow.Author.Rules.{rules}
 use Rattle.split.proofs.work.split_by.Goals as goal
 
 pub returns-in-Fail : goal.returns-in-Fail

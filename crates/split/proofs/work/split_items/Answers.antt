@@ -9,7 +9,6 @@ use Rattle.caas_spec.specs.Operation.{split_call}
 use Rattle.scratch_spec.proofs.NodeLaws.{deficit-read}
 use Rattle.split.specs.Items.{ItemsLoaded}
 use Rattle.split.proofs.ItemLaws.{lows-storable, highs-storable, weights-storable, items-splitting, masses-done, deficit-done}
-use borrow.Author.Rules.{rules}
 use Rattle.split.proofs.work.split_items.Goals as goal
 
 -- what was loaded, of the total itself

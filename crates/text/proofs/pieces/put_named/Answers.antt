@@ -1,7 +1,6 @@
 -- `text::pieces::put_named` meets its contract: the word, and the number after it.
 use native.Mathlib.Omega.{arith}
 use Rattle.text.proofs.TextLaws.{then}
-use borrow.Author.Rules.{rules}
 use Rattle.text.proofs.pieces.put_named.Goals as goal
 
 pub returns : goal.returns

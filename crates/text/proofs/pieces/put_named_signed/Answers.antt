@@ -5,7 +5,6 @@ use mir.Syntax.{w64}
 use mir.Val.{to_z, of_z}
 use mir.ValLaws.{to_z-of_z}
 use Rattle.text.proofs.TextLaws.{then}
-use borrow.Author.Rules.{rules}
 use Rattle.text.proofs.pieces.put_named_signed.Goals as goal
 
 pub returns : goal.returns

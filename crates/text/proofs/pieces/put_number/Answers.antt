@@ -1,7 +1,6 @@
 -- `text::pieces::put_number` meets its contract: the digits, and one byte after them.
 use native.Mathlib.Omega.{arith}
 use Rattle.text.proofs.TextLaws.{then, byte}
-use borrow.Author.Rules.{rules}
 use Rattle.text.proofs.pieces.put_number.Goals as goal
 
 pub returns : goal.returns

@@ -2,7 +2,6 @@
 use native.Mathlib.Omega.{arith}
 use Rattle.text.proofs.TextLaws.{then}
 use Rattle.text.specs.Text.{refusal_text}
-use borrow.Author.Rules.{rules}
 use Rattle.text.proofs.pieces.put_refusal.Goals as goal
 
 pub returns : goal.returns

@@ -3,7 +3,6 @@ use mathlib.Core.Path.{◌∙◌}
 use native.Mathlib.Omega.{arith}
 use lib.ListN.{length-set}
 use Rattle.text.proofs.TextLaws.{then, byte, below-zero, from_zero}
-use borrow.Author.Rules.{rules}
 use Rattle.text.proofs.pieces.put_signed.Goals as goal
 
 pub put_number-requires : goal.put_number-requires

@@ -2,7 +2,6 @@
 -- that is read there is the column.
 use mathlib.Core.Path.{◌∙◌, ap}
 use Prim.Native.Nat.{◌+◌, ◌*◌}
-use borrow.Author.Rules.{rules}
 use Rattle.numbers.specs.Lists.{at_ℤ}
 use Rattle.numbers.specs.Signed.{over}
 use Rattle.numbers.proofs.SignedLaws.{read_back}

@@ -4,7 +4,7 @@ use native.Mathlib.Omega.{arith}
 use mir.Syntax.{w64}
 use mir.Val.{of_z}
 use mir.ValLaws.{to_z-of_z, of_z_fits}
-use borrow.Author.Rules.{rules, sfits_of}
+use borrow.Author.Rules.{sfits_of}
 use Rattle.numbers.specs.Signed.{over}
 use Rattle.numbers.proofs.SignedLaws.{about}
 use Rattle.scratch_spec.specs.Columns.{half, part}

@@ -5,7 +5,7 @@ use Prim.Native.Nat.{◌+◌, ◌*◌}
 use lib.IntN.{ℤ}
 use mir.Syntax.{w64}
 use mir.ValLaws.{to_z-of_z}
-use borrow.Author.Rules.{rules, sfits_of}
+use borrow.Author.Rules.{sfits_of}
 use Rattle.numbers.specs.Lists.{at_ℤ}
 use Rattle.numbers.proofs.SignedLaws.{read_back}
 use Rattle.scratch_spec.specs.Columns.{width, offset, with_part}

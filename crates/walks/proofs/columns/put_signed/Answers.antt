@@ -5,7 +5,6 @@ use native.Mathlib.Omega.{arith}
 use lib.IntN.{pos}
 use mir.Syntax.{w64}
 use mir.ValLaws.{to_z-of_z}
-use borrow.Author.Rules.{rules}
 use Rattle.numbers.specs.Signed.{over}
 use Rattle.scratch_spec.specs.Columns.{Stored}
 use Rattle.scratch_spec.proofs.ColumnLaws.{stored-mass}

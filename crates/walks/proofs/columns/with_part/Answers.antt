@@ -7,7 +7,7 @@ use lib.IntN.{ℤ, pos, ◌+ℤ◌, ◌-ℤ◌, ◌*ℤ◌}
 use mir.Syntax.{w64}
 use mir.Val.{SFits, to_z, of_z}
 use mir.ValLaws.{to_z-of_z}
-use borrow.Author.Rules.{rules, sfits_of}
+use borrow.Author.Rules.{sfits_of}
 use Rattle.scratch_spec.specs.Columns.{half, with_part}
 use Rattle.scratch_spec.proofs.ColumnLaws.{low_fits, part-fits, with-low, with-high}
 use Rattle.walks.proofs.columns.with_part.Goals as goal

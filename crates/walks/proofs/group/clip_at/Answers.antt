@@ -2,7 +2,6 @@
 use mathlib.Core.Path.{sym, ◌∙◌, ap₂}
 use Prim.Native.Nat.{min, max}
 use native.Mathlib.Omega.{arith}
-use borrow.Author.Rules.{rules}
 use Rattle.caas_spec.proofs.SplitLaws.{clip-is}
 use Rattle.walks.proofs.group.clip_at.Goals as goal
 

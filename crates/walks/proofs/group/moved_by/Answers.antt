@@ -1,7 +1,6 @@
 -- `walks::group::moved_by` meets its contract: the direction says whether the share is taken away or added; both numbers are below
 -- 2 ^ 63, so their sum fits.
 use native.Mathlib.Omega.{arith}
-use borrow.Author.Rules.{rules}
 use Rattle.walks.proofs.group.moved_by.Goals as goal
 
 pub returns-then-x-share : goal.returns-then-x-share

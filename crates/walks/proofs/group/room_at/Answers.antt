@@ -1,7 +1,6 @@
 -- `walks::group::room_at` meets its contract: the room is taken of what was read, and a value that is moved by all of its room is at most
 -- the larger of itself and the high, which were read too.
 use mathlib.Core.Path.{◌∙◌, ap, ap₂}
-use borrow.Author.Rules.{rules}
 use Rattle.caas_spec.specs.Split.{room}
 use Rattle.scratch_spec.specs.Columns.{MASS, num}
 use Rattle.scratch_spec.proofs.WalkLaws.{room_small, moved-room}

@@ -3,7 +3,6 @@
 use mathlib.Core.Path.{◌≡◌, refl, sym, ◌∙◌, subst}
 use Prim.Native.Nat.{ℕ, ◌+◌, ◌*◌, ◌-◌, ◌≤◌, ◌<◌, ◌^◌}
 use native.Mathlib.Omega.{arith}
-use borrow.Author.Rules.{rules}
 use Rattle.caas_spec.specs.Split.{moved}
 use Rattle.scratch_spec.specs.Columns.{MASS, WEIGHT, FIRST, NEXT, num, InRow}
 use Rattle.scratch_spec.specs.Walks.{ShareState}

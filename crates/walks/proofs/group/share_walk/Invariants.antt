@@ -1,13 +1,7 @@
 -- `walks::group::share_walk` meets its contract: `ShareState` holds from turn to turn (`share-start`, `share-turn`), and at the chain's
 -- end it is what is ensured (`share-end`). The chain rises, so the walk ends; d and the sums are below 2 ^ 31, so all that is computed fits.
-use mathlib.Core.Path.{◌≡◌, refl, sym, ◌∙◌, subst}
-use Prim.Native.Nat.{ℕ, ◌+◌, ◌*◌, ◌-◌, ◌≤◌, ◌<◌, ◌^◌}
-use native.Mathlib.Omega.{arith}
-use borrow.Author.Rules.{rules}
-use Rattle.caas_spec.specs.Split.{moved}
-use Rattle.scratch_spec.specs.Columns.{MASS, WEIGHT, FIRST, NEXT, num, InRow}
+use Prim.Native.Nat.{◌-◌}
 use Rattle.scratch_spec.specs.Walks.{ShareState}
-use Rattle.scratch_spec.proofs.WalkLaws.{own_row, share-start, share-row, share-rises, size_small, size_fits, prior-below, given-small, left-small, share-turn, share-end, moved-small}
 use Rattle.walks.proofs.group.share_walk.Given as goal
 
 abbrev pub invariant-loop-u : goal.invariant-loop-u
