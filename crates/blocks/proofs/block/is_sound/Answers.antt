@@ -1,5 +1,5 @@
 -- `blocks::block::is_sound` meets its contract: the number and both check words are tested.
-use Rattle.std.proofs.Common.{eqb, ap, ◌∙◌, ap₂}
+use Rattle.std.proofs.Common.{eqb, ap, ◌∙◌, ap₂, ◌&&◌}
 use Rattle.blocks.specs.Blocks.{word_of, is_sound}
 use Rattle.blocks.proofs.block.is_sound.Goals as goal
 
