@@ -1,0 +1,8 @@
+-- `turns::next_member` meets its contract: the search is the definition's.
+use Rattle.family_spec.specs.Operations.{next_member}
+use borrow.Author.Rules.{rules}
+use Rattle.turns.proofs.next_member.Goals as goal
+
+pub returns : goal.returns
+unfolding next_member
+returns c = c.first_waiting.ensures

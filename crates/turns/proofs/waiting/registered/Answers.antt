@@ -1,0 +1,8 @@
+-- `turns::waiting::registered` meets its contract.
+use mathlib.Core.Path.{ap}
+use Rattle.family_spec.specs.Family.{schedule}
+use borrow.Author.Rules.{rules}
+use Rattle.turns.proofs.waiting.registered.Goals as goal
+
+pub returns : goal.returns
+returns c = let f = c.args.family in ap (λ b. schedule f b f.from) c.with_bit.ensures
