@@ -40,8 +40,8 @@ pub loop-i-preserved : goal.loop-i-preserved
 loop-i-preserved c =
     let a = c.args in
     let l = c.loop-i in
-    let e = c.signed_word.ensures ∙ ap signed_word (to_z-of_z w32 (at_ℤ a.list.now l.i) (record { sfits = c.signed_word-arg-1.given })) in
-    (omega arith, next-entry a.words.now (λ x. signed_word (at_ℤ a.list.now x)) l.i (omega arith) l.invariant.1 e, simp length-set l.invariant.2, below_more _ _ l.invariant.3 c.signed_word-arg-1.given)
+    let e = c.signed_word.ensures ∙ ap signed_word (to_z-of_z w32 (at_ℤ a.list.now l.i) (record { sfits = omega arith })) in
+    (omega arith, next-entry a.words.now (λ x. signed_word (at_ℤ a.list.now x)) l.i (omega arith) l.invariant.1 e, simp length-set l.invariant.2, below_more _ _ l.invariant.3 (omega arith))
 
 pub shape_of-words : goal.shape_of-words
 shape_of-words c = omega arith
