@@ -1,4 +1,5 @@
 -- `split::verdict::check_reach` meets its contract: both sums fit, so what was added up is the sum.
+use mathlib.Core.Bool.{◌&&◌}
 use mathlib.Core.Path.{◌∙◌, ap, ap₂}
 use lib.Signed.{le_z}
 use mir.Syntax.{w64}

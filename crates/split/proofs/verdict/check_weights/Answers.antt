@@ -1,4 +1,5 @@
 -- `split::verdict::check_weights` meets its contract: where no weight is below 0, the sum of what they have above 0 is their sum.
+use mathlib.Core.Bool.{◌&&◌}
 use mathlib.Core.Path.{◌∙◌, ap, ap₂}
 use Rattle.numbers.specs.Checks.{unless}
 use Rattle.caas_spec.specs.Operation.{check_weights}
