@@ -35,7 +35,7 @@ pub struct Rule {
 }
 
 // What Write an answer is given in a case, and the position behind it. Of the masses and the buffer it has the lengths.
-#[derive(Drop)]
+#[derive(Clone, Copy)]
 pub struct WriteCase {
     pub cells: usize,
     pub repair: Repair,

@@ -7,7 +7,7 @@ ghost use Rattle.std.specs.Prelude.{◌<◌};
 use test_support::draws::more;
 
 // What a call answered: whether it was accepted, and its outcome and total, or the refusal's number and place.
-#[derive(Drop)]
+#[derive(Clone, Copy)]
 pub struct Told {
     pub accepted: bool,
     pub first: u32,

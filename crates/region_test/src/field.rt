@@ -22,7 +22,7 @@ pub struct DrawnField {
 }
 
 // A cell of a field.
-#[derive(Drop)]
+#[derive(Clone, Copy)]
 pub struct Cell {
     pub target: i32,
     pub low: u32,
