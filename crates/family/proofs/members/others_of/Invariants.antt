@@ -1,0 +1,18 @@
+-- `family::members::others_of` meets its contract: after j members the sum is that of the totals of the first j but i.
+use mathlib.Core.Path.{◌≡◌, ◌∙◌, ap}
+use mathlib.Core.Bool.{not}
+use Prim.Native.Nat.{◌≤◌, ◌-◌, ◌*◌}
+use native.Mathlib.Omega.{arith}
+use native.Mathlib.Numerals.{add-one}
+use lib.Dec.{eqb}
+use Rattle.numbers.specs.Sums.{ℕ_adds, sum_to, pick}
+use Rattle.numbers.proofs.SumLaws.{sum_to-next}
+use Rattle.family_spec.specs.Family.{total_of, others}
+use borrow.Author.Rules.{rules}
+use Rattle.family.proofs.members.others_of.Given as goal
+
+abbrev pub invariant-loop-j : goal.invariant-loop-j
+invariant-loop-j l = (l.j ≤ 8) × (l.sum ≡ sum_to ℕ_adds l.j (λ k. pick ℕ_adds (not (eqb k l.i)) (total_of l.family k))) × (l.sum ≤ l.j * 4294967295)
+
+abbrev pub decreases-loop-j : goal.decreases-loop-j
+decreases-loop-j l = 8 - l.j
