@@ -1,6 +1,5 @@
 -- `turns::next_member` meets its contract: the search is the definition's.
 use Rattle.family_spec.specs.Operations.{next_member}
-use borrow.Author.Rules.{rules}
 use Rattle.turns.proofs.next_member.Goals as goal
 
 pub returns : goal.returns

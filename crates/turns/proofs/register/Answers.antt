@@ -3,7 +3,6 @@ use mathlib.Core.Path.{sym, ◌∙◌}
 use native.Mathlib.Omega.{arith}
 use Rattle.family_spec.proofs.RuleLaws.{registering-accepts}
 use Rattle.family_spec.proofs.AnswerLaws.{register-refused, register-done}
-use borrow.Author.Rules.{rules}
 use Rattle.turns.proofs.register.Goals as goal
 
 pub returns-in-Fail : goal.returns-in-Fail

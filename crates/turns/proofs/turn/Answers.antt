@@ -8,7 +8,6 @@ use Rattle.family_spec.specs.Member.{StepInputs, step_inputs}
 use Rattle.family_spec.specs.Operations.{StepMemberContract}
 use Rattle.family_spec.proofs.TurnLaws.{turn-nobody, turn-done}
 use Rattle.family_spec.proofs.WaitingLaws.{next-number}
-use borrow.Author.Rules.{rules}
 use Rattle.turns.proofs.turn.Goals as goal
 use Rattle.turns.proofs.turn.Lts as lts
 use Rattle.turns.proofs.turn.Tie as tie

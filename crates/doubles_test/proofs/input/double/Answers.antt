@@ -1,7 +1,6 @@
 -- `doubles_test::input::double` is safe: a pattern that is at most the infinity's, with the sign taken off, is no NaN's.
 use native.Mathlib.Omega.{arith}
 use lib.Ieee.{binary64}
-use borrow.Author.Rules.{rules}
 use Rattle.doubles_spec.proofs.Patterns.{pattern-no-nan}
 use Rattle.doubles_test.proofs.input.double.Goals as goal
 

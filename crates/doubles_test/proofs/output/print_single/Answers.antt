@@ -1,5 +1,4 @@
 -- `doubles_test::output::print_single` is safe: a binary32 that equals itself is no NaN.
-use borrow.Author.Rules.{rules}
 use Rattle.doubles_spec.proofs.Patterns.{no_nan}
 use Rattle.doubles_test.proofs.output.print_single.Goals as goal
 

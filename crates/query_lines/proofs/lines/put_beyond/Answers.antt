@@ -2,7 +2,6 @@
 use native.Mathlib.Omega.{arith}
 use Rattle.text.proofs.TextLaws.{then}
 use Rattle.query_spec.specs.Query.{beyond_line}
-use borrow.Author.Rules.{rules}
 use Rattle.query_lines.proofs.lines.put_beyond.Goals as goal
 
 pub returns-then-side : goal.returns-then-side

@@ -2,7 +2,6 @@
 use native.Mathlib.Omega.{arith}
 use borrow.Author.Tests.{eq-eqb, ne_eqb}
 use Rattle.query_spec.specs.Query.{refused_line}
-use borrow.Author.Rules.{rules}
 use Rattle.query_lines.proofs.lines.put_refused.Goals as goal
 
 pub returns-then-number-eq8 : goal.returns-then-number-eq8

@@ -4,7 +4,6 @@ use Prim.Native.Nat.{min}
 use lib.Dec.{ltb}
 use Rattle.numbers.specs.Signed.{gap}
 use Rattle.query_spec.specs.Query.{is_below, distance}
-use borrow.Author.Rules.{rules}
 use Rattle.query_lines.proofs.lines.side_of.Goals as goal
 
 pub returns : goal.returns

@@ -1,7 +1,5 @@
 -- `split_test::output::check_number` is safe and ends: the check number stays a remainder.
 use Prim.Native.Nat.{◌≤◌, ◌<◌, ◌-◌}
-use native.Mathlib.Omega.{arith}
-use borrow.Author.Rules.{rules}
 use lib.ListN.{length}
 use Rattle.split_test.proofs.output.check_number.Given as goal
 

@@ -1,8 +1,5 @@
 -- `split_test::output::print_masses` is safe and ends: the index stays within the masses.
-use Prim.Native.Nat.{◌≤◌, ◌-◌}
 use native.Mathlib.Omega.{arith}
-use borrow.Author.Rules.{rules}
-use lib.ListN.{length}
 use Rattle.split_test.proofs.output.print_masses.Goals as goal
 
 pub loop-i-init : goal.loop-i-init

@@ -2,7 +2,6 @@
 use Prim.Native.Nat.{◌*◌, ◌%◌, ◌≤◌}
 use native.Mathlib.Omega.{arith}
 use native.Mathlib.Nat.{mul-le-mul}
-use borrow.Author.Rules.{rules}
 use Rattle.split_test.proofs.output.weighed.Goals as goal
 
 product : (c : goal.After-residue) → c.args.place % 1000000007 * c.residue.result ≤ 1000000006 * 1000000006

@@ -1,6 +1,6 @@
 -- `turns::waiting::first_waiting` meets its contract: past k members the search is that of the 8 - k left.
 use mathlib.Core.Path.{◌≡◌, sym, ◌∙◌, ap}
-use Prim.Native.Nat.{◌+◌, ◌-◌, ◌%◌, ◌≤◌}
+use Prim.Native.Nat.{◌+◌, ◌%◌}
 use native.Mathlib.Omega.{arith}
 use native.Mathlib.Nat.{add-zero}
 use Rattle.family_spec.specs.declared.NextMember.TheVariants as next

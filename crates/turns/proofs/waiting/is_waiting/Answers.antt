@@ -4,7 +4,6 @@ use Prim.Native.Nat.{◌/◌, ◌%◌}
 use lib.Dec.{eqb}
 use lib.Pow.{pow_pos}
 use Rattle.family_spec.specs.Waiting.{waits}
-use borrow.Author.Rules.{rules}
 use Rattle.turns.proofs.waiting.is_waiting.Goals as goal
 
 pub nonzero_div-result : goal.nonzero_div-result

@@ -1,7 +1,6 @@
 -- `turns::waiting::registered` meets its contract.
 use mathlib.Core.Path.{ap}
 use Rattle.family_spec.specs.Family.{schedule}
-use borrow.Author.Rules.{rules}
 use Rattle.turns.proofs.waiting.registered.Goals as goal
 
 pub returns : goal.returns

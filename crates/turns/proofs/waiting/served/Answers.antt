@@ -2,7 +2,6 @@
 use Prim.Native.Nat.{◌%◌}
 use native.Mathlib.Numerals.{add-one}
 use Rattle.family_spec.specs.Family.{schedule}
-use borrow.Author.Rules.{rules}
 use Rattle.turns.proofs.waiting.served.Goals as goal
 
 pub returns : goal.returns

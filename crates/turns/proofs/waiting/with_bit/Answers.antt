@@ -1,7 +1,6 @@
 -- `turns::waiting::with_bit` meets its contract: a bit that is clear is set by adding its power.
 use mathlib.Core.Path.{sym, ◌∙◌}
 use Rattle.family_spec.proofs.WaitingLaws.{set-has, set-adds, set-fits}
-use borrow.Author.Rules.{rules}
 use Rattle.turns.proofs.waiting.with_bit.Goals as goal
 
 pub returns-then-is_waiting : goal.returns-then-is_waiting

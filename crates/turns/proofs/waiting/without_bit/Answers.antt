@@ -1,7 +1,6 @@
 -- `turns::waiting::without_bit` meets its contract: a bit that is set is cleared by taking its power away.
 use mathlib.Core.Path.{sym, ◌∙◌}
 use Rattle.family_spec.proofs.WaitingLaws.{clear-has, clear-takes, clear-fits}
-use borrow.Author.Rules.{rules}
 use Rattle.turns.proofs.waiting.without_bit.Goals as goal
 
 pub overflow_sub-result : goal.overflow_sub-result
