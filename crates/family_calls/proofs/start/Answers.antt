@@ -1,7 +1,6 @@
 -- `family_calls::start` meets its contract: the room first, and then what the operation tells is returned and written.
 use native.Mathlib.Omega.{arith}
 use Rattle.family_calls.proofs.CallLaws.{start-no-room, start-done, start-refused}
-use borrow.Author.Rules.{rules}
 use Rattle.family_calls.proofs.start.Goals as goal
 
 pub returns-then-family-lt-FAMILY_ENTRIES : goal.returns-then-family-lt-FAMILY_ENTRIES

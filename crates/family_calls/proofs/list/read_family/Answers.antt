@@ -3,7 +3,6 @@ use mathlib.Core.List.{[], ◌∷◌}
 use Prim.Native.Nat.{◌%◌, ◌^◌}
 use native.Mathlib.Omega.{arith}
 use Rattle.numbers.specs.Lists.{at}
-use borrow.Author.Rules.{rules}
 use Rattle.family_calls.proofs.list.read_family.Goals as goal
 
 pub bounds-list-19 : goal.bounds-list-19

@@ -3,7 +3,6 @@ use mathlib.Core.Path.{ap}
 use lib.Dec.{eqb}
 use Prim.Native.Nat.{◌%◌}
 use Rattle.numbers.specs.Lists.{at}
-use borrow.Author.Rules.{rules}
 use Rattle.family_calls.proofs.list.read_member.Goals as goal
 
 pub returns : goal.returns

@@ -2,7 +2,6 @@
 use mathlib.Core.Path.{sym, ◌∙◌, ap₂}
 use Rattle.numbers.specs.Checks.{both}
 use Rattle.numbers.proofs.CheckLaws.{both-pass}
-use borrow.Author.Rules.{rules}
 use Rattle.family_calls.proofs.verdict.call_room.Goals as goal
 
 pub returns : goal.returns
