@@ -65,7 +65,7 @@ fn start_anew(
     match started {
         BookStarted::Length(next) => next,
         BookStarted::Refused { number, place: _ } => {
-            show_started(started);
+            show_started(&started);
             count(number, counts);
             length
         }

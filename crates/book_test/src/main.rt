@@ -116,7 +116,7 @@ fn show_start(total: u32, buffer: &mut [u8], room: usize) -> BookStarted
     requires { room ≤ length buffer.old }
 {
     let started = start_book(total, &mut buffer[0..room]);
-    output::show_started(started);
+    output::show_started(&started);
     started
 }
 

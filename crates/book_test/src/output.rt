@@ -33,10 +33,10 @@ pub fn show_report(buffer: &[u8; 32768], length: usize) {
 }
 
 // What a start gave.
-pub fn show_started(started: BookStarted) {
+pub fn show_started(started: &BookStarted) {
     match started {
-        BookStarted::Length(length) => print_named(b"start", length as u64),
-        BookStarted::Refused { number, place: _ } => print_named(b"start refused", wide(number)),
+        BookStarted::Length(length) => print_named(b"start", *length as u64),
+        BookStarted::Refused { number, place: _ } => print_named(b"start refused", wide(*number)),
     }
     end_line();
 }
