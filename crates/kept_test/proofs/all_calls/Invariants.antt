@@ -1,7 +1,5 @@
 -- `kept_test::all_calls` is safe and ends: it makes 24 turns.
 use Prim.Native.Nat.{◌-◌}
-use native.Mathlib.Omega.{arith}
-use borrow.Author.Rules.{rules}
 use Rattle.kept_test.proofs.all_calls.Given as goal
 
 abbrev pub invariant-loop-i : goal.invariant-loop-i

@@ -1,7 +1,5 @@
 -- `kept_test::some_calls` is safe and ends: it makes 500 calls.
-use Prim.Native.Nat.{◌-◌}
 use native.Mathlib.Omega.{arith}
-use borrow.Author.Rules.{rules}
 use Rattle.kept_test.proofs.some_calls.Goals as goal
 
 pub loop-i-init : goal.loop-i-init

@@ -6,7 +6,6 @@ use Rattle.family_calls.specs.Calls.{call_room}
 use Rattle.family_calls.proofs.CallLaws.{room-family, room-answer}
 use Rattle.turn_calls.specs.TurnCalls.{next_word}
 use Rattle.turn_calls.proofs.TurnCallLaws.{read-refused, read_done}
-use borrow.Author.Rules.{rules}
 use Rattle.turn_calls.proofs.next.Goals as goal
 use Rattle.turn_calls.proofs.next.Lts as lts
 use Rattle.turn_calls.proofs.next.Tie as tie

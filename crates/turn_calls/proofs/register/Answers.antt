@@ -4,7 +4,6 @@ use native.Mathlib.Omega.{arith}
 use Rattle.family_spec.specs.Operations.{RegisterContract}
 use Rattle.family_calls.specs.List.{family_in}
 use Rattle.turn_calls.proofs.TurnCallLaws.{register-no-room, register-done, register-refused}
-use borrow.Author.Rules.{rules}
 use Rattle.turn_calls.proofs.register.Goals as goal
 use Rattle.turn_calls.proofs.register.Lts as lts
 use Rattle.turn_calls.proofs.register.Tie as tie

@@ -13,7 +13,6 @@ use Rattle.family_calls.specs.Calls.{call_room}
 use Rattle.family_calls.proofs.CallLaws.{room-family, room-answer}
 use Rattle.turn_calls.specs.TurnCalls.{turn_values}
 use Rattle.turn_calls.proofs.TurnCallLaws.{turn-refused, turn-idled, turn-served}
-use borrow.Author.Rules.{rules}
 use Rattle.turn_calls.proofs.turn.Goals as goal
 use Rattle.turn_calls.proofs.turn.Lts as lts
 use Rattle.turn_calls.proofs.turn.Tie as tie

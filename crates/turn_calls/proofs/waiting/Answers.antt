@@ -5,7 +5,6 @@ use Rattle.family_spec.specs.Operations.{waiting_count}
 use Rattle.family_calls.specs.Calls.{call_room}
 use Rattle.family_calls.proofs.CallLaws.{room-family, room-answer}
 use Rattle.turn_calls.proofs.TurnCallLaws.{read-refused, read_done}
-use borrow.Author.Rules.{rules}
 use Rattle.turn_calls.proofs.waiting.Goals as goal
 use Rattle.turn_calls.proofs.waiting.Lts as lts
 use Rattle.turn_calls.proofs.waiting.Tie as tie

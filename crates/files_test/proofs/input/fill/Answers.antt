@@ -1,9 +1,6 @@
 -- `files_test::input::fill` is safe and ends: each mass is less than the modulus, and the list keeps its length.
-use mathlib.Core.Path.{◌≡◌}
-use Prim.Native.Nat.{◌<◌, ◌-◌}
 use native.Mathlib.Omega.{arith}
-use borrow.Author.Rules.{rules}
-use lib.ListN.{length, length-set}
+use lib.ListN.{length-set}
 use Rattle.files_test.proofs.input.fill.Goals as goal
 
 pub left-mass-requires : goal.left-mass-requires

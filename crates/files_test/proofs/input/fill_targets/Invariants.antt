@@ -1,9 +1,7 @@
 -- `files_test::input::fill_targets` is safe and ends: each word is less than the modulus, and the list keeps its length.
 use mathlib.Core.Path.{◌≡◌}
 use Prim.Native.Nat.{◌<◌, ◌-◌}
-use native.Mathlib.Omega.{arith}
-use borrow.Author.Rules.{rules}
-use lib.ListN.{length, length-set}
+use lib.ListN.{length}
 use Rattle.files_test.proofs.input.fill_targets.Given as goal
 
 abbrev pub invariant-loop-i : goal.invariant-loop-i

@@ -1,6 +1,5 @@
 -- `files_test::input::left` meets its contract: what is left is less than the modulus.
 use native.Mathlib.Nat.{mod-lt}
-use borrow.Author.Rules.{rules}
 use Rattle.files_test.proofs.input.left.Goals as goal
 
 pub returns : goal.returns

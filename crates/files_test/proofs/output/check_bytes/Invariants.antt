@@ -1,7 +1,5 @@
 -- `files_test::output::check_bytes` is safe and ends: the check number stays a remainder.
 use Prim.Native.Nat.{◌≤◌, ◌<◌, ◌-◌}
-use native.Mathlib.Omega.{arith}
-use borrow.Author.Rules.{rules}
 use lib.ListN.{length}
 use Rattle.files_test.proofs.output.check_bytes.Given as goal
 

@@ -1,8 +1,5 @@
 -- `files_test::output::check_targets` is safe and ends: the check number stays a remainder.
-use Prim.Native.Nat.{◌-◌, ◌≤◌, ◌<◌}
 use native.Mathlib.Omega.{arith}
-use lib.ListN.{length}
-use borrow.Author.Rules.{rules}
 use Rattle.files_test.proofs.output.check_targets.Goals as goal
 
 pub loop-i-init : goal.loop-i-init

@@ -1,6 +1,5 @@
 -- `reconstruct_test::input::read_case` meets its contract: each list ends where the next one starts.
 use native.Mathlib.Omega.{arith}
-use borrow.Author.Rules.{rules}
 use Rattle.reconstruct_test.proofs.input.read_case.Goals as goal
 
 pub returns : goal.returns

@@ -1,8 +1,5 @@
 -- `reconstruct_test::output::count` is safe and ends: no more numbers are counted than passed.
-use Prim.Native.Nat.{◌≤◌, ◌-◌}
 use native.Mathlib.Omega.{arith}
-use borrow.Author.Rules.{rules}
-use lib.ListN.{length}
 use Rattle.reconstruct_test.proofs.output.count.Goals as goal
 
 pub loop-i-init : goal.loop-i-init

@@ -1,6 +1,5 @@
 -- `turn_calls::put::next_word` meets its contract, by who is next.
 use mathlib.Core.Path.{sym, ap}
-use borrow.Author.Rules.{rules}
 use Rattle.turn_calls.specs.TurnCalls.{next_word}
 use Rattle.turn_calls.proofs.put.next_word.Goals as goal
 

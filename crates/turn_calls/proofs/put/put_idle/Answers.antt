@@ -3,7 +3,6 @@ use mathlib.Core.Path.{◌∙◌, ap}
 use mathlib.Core.List.{◌∷◌}
 use Rattle.numbers.specs.Lists.{written}
 use Rattle.call_values.specs.Values.{result_words}
-use borrow.Author.Rules.{rules}
 use Rattle.turn_calls.proofs.put.put_idle.Goals as goal
 
 pub returns : goal.returns

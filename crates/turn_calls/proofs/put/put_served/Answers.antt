@@ -5,7 +5,6 @@ use Rattle.numbers.specs.Lists.{written}
 use Rattle.kept_spec.specs.Step.{step_tells}
 use Rattle.call_values.specs.Values.{result_words}
 use Rattle.turn_calls.specs.TurnCalls.{step_words}
-use borrow.Author.Rules.{rules}
 use Rattle.turn_calls.proofs.put.put_served.Goals as goal
 
 pub returns-in-Accepted : goal.returns-in-Accepted

@@ -5,7 +5,6 @@ use native.Mathlib.Omega.{arith}
 use lib.ListN.{length-set}
 use Rattle.numbers.proofs.PartLaws.{sets-written}
 use Rattle.call_values.specs.Values.{result_words}
-use borrow.Author.Rules.{rules}
 use Rattle.turn_calls.proofs.put.put_turn.Goals as goal
 
 pub bounds-answer-1 : goal.bounds-answer-1

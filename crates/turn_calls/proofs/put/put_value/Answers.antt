@@ -2,7 +2,6 @@
 use mathlib.Core.Path.{refl}
 use mathlib.Core.List.{[], ◌∷◌}
 use Rattle.numbers.proofs.PartLaws.{sets-written}
-use borrow.Author.Rules.{rules}
 use Rattle.turn_calls.proofs.put.put_value.Goals as goal
 
 pub returns : goal.returns
