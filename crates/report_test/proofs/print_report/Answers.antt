@@ -1,0 +1,10 @@
+-- `report_test::print_report` is safe: the text fits in the buffer.
+use Rattle.text.proofs.ReportsLaws.{text-fits}
+use borrow.Author.Rules.{rules}
+use Rattle.report_test.proofs.print_report.Goals as goal
+
+pub slice_bounds-write_all-end : goal.slice_bounds-write_all-end
+slice_bounds-write_all-end c = (text-fits (rw c.in-Text.is at c.report.ensures)).0
+
+pub slice_bounds-write_all-end-in-Text : goal.slice_bounds-write_all-end-in-Text
+slice_bounds-write_all-end-in-Text c = (text-fits (rw c.in-Text.is at c.report.ensures)).1
