@@ -17,7 +17,7 @@ use Rattle.numbers.proofs.CheckLaws.{both-pass}
 use Rattle.numbers.proofs.PartLaws.{length-kept}
 use Rattle.qlt_spec.specs.Field.{cells, nodes}
 use Rattle.qlt_spec.specs.Checks.{check_nodes, check_shape}
-use Rattle.qlt_spec.specs.Operation.{repair, Leaves}
+use Rattle.qlt_spec.specs.Operation.{Leaves}
 use Rattle.kept_spec.specs.Open.{open_balance, open_answer}
 use Rattle.kept_spec.specs.Step.{StepCall, new_total, repair_call, step_result, step_answer}
 use Rattle.kept_spec.proofs.OpenLaws.{open-answer-tells}

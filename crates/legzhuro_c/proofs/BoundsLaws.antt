@@ -10,7 +10,6 @@ use lib.IntN.{ℤ}
 use lib.ListN.{length}
 use Rattle.numbers.specs.Checks.{Answered, accepted, refused}
 use Rattle.numbers.proofs.CheckLaws.{answered-accepted, answered-refused}
-use Rattle.book_spec.specs.Book.{book}
 use Rattle.kept_spec.specs.Step.{StepCall, step_answer}
 use Rattle.kept_spec.proofs.StepLaws.{answer-tells}
 use Rattle.bounds_spec.specs.declared.Ratio.{Ratio}

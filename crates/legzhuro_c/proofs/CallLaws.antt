@@ -22,7 +22,6 @@ use Rattle.qlt_spec.specs.Checks.{check_nodes}
 use Rattle.qlt_spec.specs.Operation.{Leaves}
 use Rattle.qlt_spec.proofs.OperationLaws.{leaves-refused}
 use Rattle.book_spec.specs.LentBook.{grown_buffer}
-use Rattle.book_spec.specs.Book.{book}
 use Rattle.kept_spec.specs.declared.Balance.{Balance}
 use Rattle.kept_spec.specs.declared.Opened.{Opened}
 use Rattle.kept_spec.specs.declared.Opened.TheVariants as opened

@@ -21,8 +21,7 @@ use Rattle.caas_spec.specs.Operation.{SplitCall, items, split_verdict, split_mas
 use Rattle.caas_spec.proofs.OperationLaws.{split-decides, split-numbers}
 use Rattle.qlt_spec.specs.Field.{cells, nodes}
 use Rattle.qlt_spec.specs.Checks.{check_nodes, check_shape}
-use Rattle.qlt_spec.specs.Operation.{repair, Leaves}
-use Rattle.book_spec.specs.Book.{book}
+use Rattle.qlt_spec.specs.Operation.{Leaves}
 use Rattle.kept_spec.specs.Open.{open_verdict, open_balance, open_answer, OpenContract}
 use Rattle.kept_spec.specs.Step.{StepCall, repair_call, step_verdict, step_result, step_answer, StepContract}
 use Rattle.kept_spec.proofs.OpenLaws.{open-decides, open-numbers, open-answer-tells}

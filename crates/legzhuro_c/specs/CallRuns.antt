@@ -2,7 +2,6 @@
 use Rattle.std.specs.Prelude.{◌≡◌, cond, List, [], ◌∷◌, ◌++◌, ℕ, leb, ℤ, length}
 use Rattle.numbers.specs.Checks.{accepted}
 use Rattle.book_spec.specs.StartBook.{book_start_tells}
-use Rattle.book_spec.specs.Book.{book}
 use Rattle.kept_spec.specs.Step.{StepCall, step_answer}
 use Rattle.kept_spec.specs.Account.{Event, Standing, told, Accepts, balance_after}
 use Rattle.kept_spec.specs.BookRun.{StartEvent, StartPromised, Act, Ledger, ledger, standing_of, Lent, length_after}

@@ -1,5 +1,5 @@
 -- The calls from C: what each returns and leaves in the lists lent to it. Assumes nothing.
-use Rattle.std.specs.Prelude.{◌≡◌, List, [], ◌∷◌, ◌++◌, ℕ, ◌+◌, ◌*◌, ◌≤◌, ℤ, pos, length, get_or, Float}
+use Rattle.std.specs.Prelude.{◌≡◌, List, [], ◌∷◌, ◌++◌, ℕ, ◌*◌, ◌≤◌, ℤ, pos, length, get_or, Float}
 use Rattle.std.specs.Float.{nan}
 use Rattle.numbers.specs.declared.Checked.{Checked}
 use Rattle.numbers.specs.declared.Checked.TheVariants.{Pass, Fail}
@@ -11,7 +11,6 @@ use Rattle.qlt_spec.specs.Field.{cells, nodes}
 use Rattle.qlt_spec.specs.Checks.{check_nodes}
 use Rattle.qlt_spec.specs.Operation.{repair, Leaves}
 use Rattle.book_spec.specs.LentBook.{grown_buffer, grown_length}
-use Rattle.book_spec.specs.Book.{book}
 use Rattle.kept_spec.specs.Open.{open_verdict, open_balance}
 use Rattle.kept_spec.specs.Step.{StepCall, new_total, repair_call, step_verdict, Typed, step_entry}
 use Rattle.bounds_spec.specs.Bounds.{Bounds, BoundsCall, converted, bounds_verdict}

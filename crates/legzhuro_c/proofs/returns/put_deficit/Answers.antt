@@ -7,20 +7,9 @@ use mir.Val.{to_z, of_z}
 use mir.ValLaws.{to_z-of_z}
 use Rattle.numbers.specs.Lists.{written}
 use Rattle.numbers.proofs.PartLaws.{sets-written}
-use borrow.Author.Rules.{rules}
-use Rattle.legzhuro_c.proofs.returns.put_deficit.Statement.{statement}
-use Rattle.legzhuro_c.proofs.returns.put_deficit.Tie as tie
+use Rattle.legzhuro_c.proofs.returns.put_deficit.Goals as goal
 
-slice-set-from-d : tie.Need-slice-set-from-d
-slice-set-from-d c = search rules
-
-same_length : tie.Need-same-length
-same_length c = search rules
-
-returns : tie.Need-returns
+pub returns : goal.returns
 returns c =
     let a = c.args in
     (refl, sets-written (to_z w64 (of_z w64 a.d) ∷ []) a.deficit.now 0 c.requires ∙ ap (λ (z : ℤ). written a.deficit.now 0 (z ∷ [])) (to_z-of_z w64 a.d c.ranges.d))
-
-pub put-deficit-spec : {M : Type 1} → statement M
-put-deficit-spec = tie.close (tie.spec slice-set-from-d same_length returns)
