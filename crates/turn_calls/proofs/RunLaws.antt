@@ -59,12 +59,15 @@ module _ (s : ListStanding) (h : family_entries ≤ length s.family) {i : ℕ} {
 -- a refused step that left what it was lent leaves every member's masses, and its book
 left_alone :
     {all all' : ℕ → List ℕ} {i : ℕ} {given left : List ℕ} {told : Answered StepResult} → left ≡ given → Lends all i given told left all' → (j : ℕ) → all' j ≡ all j
-left_alone {all} {i = i} {given = given} {left = left} e (Lends.own before rest part whole) j = by-test (eqb j i) refl
+left_alone {all} {all'} {i} {given} {left} {told} e l j = by-place left all' e l
   where
-    by-test : (b : Bool) → eqb j i ≡ b → cond b (before ++ (left ++ rest)) (all j) ≡ all j
-    by-test true t = ap (λ l. before ++ (l ++ rest)) e ∙ sym part ∙ ap all (sym (eqb-true j i t))
-    by-test false t = refl
-left_alone e (Lends.elsewhere n) j = refl
+    by-place : (left : List ℕ) (all' : ℕ → List ℕ) → left ≡ given → Lends all i given told left all' → all' j ≡ all j
+    by-place left all' e (Lends.own before rest part whole) = by-test (eqb j i) refl
+      where
+        by-test : (b : Bool) → eqb j i ≡ b → cond b (before ++ (left ++ rest)) (all j) ≡ all j
+        by-test true t = ap (λ l. before ++ (l ++ rest)) e ∙ sym part ∙ ap all (sym (eqb-true j i t))
+        by-test false t = refl
+    by-place left all' e (Lends.elsewhere n) = refl
 
 -- and the lengths of the books
 lengths-alone : (lengths : ℕ → ℕ) (i r : ℕ) (y : StepResult) → 0 < r → (j : ℕ) → lengths_after lengths i (told_by r y) j ≡ lengths j

@@ -1,5 +1,4 @@
 -- `family::open_member` meets its contract: what it answers and gives go by the verdict.
-use borrow.Author.Rules.{rules}
 use Rattle.family.proofs.open_member.Goals as goal
 
 pub open_by-requires : goal.open_by-requires

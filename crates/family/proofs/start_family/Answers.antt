@@ -4,7 +4,6 @@ use Rattle.numbers.specs.Checks.{answered}
 use Rattle.numbers.proofs.CheckLaws.{after-pass, after-fail}
 use Rattle.family_spec.specs.Family.{begun}
 use Rattle.family_spec.specs.Operations.{start_tells}
-use borrow.Author.Rules.{rules}
 use Rattle.family.proofs.start_family.Goals as goal
 
 pub returns-in-Fail : goal.returns-in-Fail

@@ -14,7 +14,6 @@ use Rattle.family_spec.specs.Family.{member_at, terms}
 use Rattle.family_spec.specs.Member.{StepInputs, step_inputs, call_of}
 use Rattle.family_spec.proofs.RuleLaws.{opened-decides}
 use Rattle.family_spec.proofs.AnswerLaws.{own_checks, step-refused, step-taken}
-use borrow.Author.Rules.{rules}
 use Rattle.family.proofs.step_member.Goals as goal
 use Rattle.family.proofs.step_member.Lts as lts
 use Rattle.family.proofs.step_member.Tie as tie

@@ -2,7 +2,6 @@
 use mathlib.Core.Path.{◌≡◌, sym, ap, ◌∙◌}
 use mathlib.Core.List.{List, [], ◌∷◌}
 use Prim.Native.Nat.{ℕ}
-use native.Mathlib.Omega.{arith}
 use Rattle.numbers.specs.declared.Checked.{Checked}
 use Rattle.numbers.specs.declared.Checked.TheVariants.{Pass}
 use Rattle.numbers.specs.Checks.{first}
@@ -11,7 +10,6 @@ use Rattle.qlt_spec.specs.Field.{Lists, lists}
 use Rattle.files_spec.specs.ReadField.{head_verdict, later_verdict, read_verdict, HeadFits}
 use Rattle.files_spec.proofs.ReadLaws.{head-accepts, head-measured, head-room}
 use Rattle.field_file.proofs.Laws.{by-verdict}
-use borrow.Author.Rules.{rules}
 use Rattle.field_file.proofs.read_field.Goals as goal
 
 -- a head that passes fits, and a verdict that passes has such a head

@@ -4,7 +4,6 @@ use mathlib.Core.Path.{◌∙◌}
 use Rattle.qlt_spec.specs.Field.{lists}
 use Rattle.files_spec.proofs.FrontLaws.{fronts-typed}
 use Rattle.field_file.proofs.Laws.{by-write-verdict}
-use borrow.Author.Rules.{rules}
 use Rattle.field_file.proofs.write_field.Goals as goal
 
 pub write_by-requires : goal.write_by-requires

@@ -2,7 +2,6 @@
 use mathlib.Core.Path.{sym, ◌∙◌, subst}
 use Rattle.kept_spec.specs.Open.{open_verdict, open_verdict_with, OpenBy}
 use Rattle.kept_spec.proofs.OpenLaws.{open-with-fits}
-use borrow.Author.Rules.{rules}
 use Rattle.kept.proofs.open.Goals as goal
 
 pub open_by-requires : goal.open_by-requires

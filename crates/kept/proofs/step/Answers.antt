@@ -5,7 +5,6 @@ use mir.Syntax.{w32}
 use mir.ValLaws.{to_z-of_z}
 use Rattle.qlt_spec.specs.Field.{lists}
 use Rattle.kept_spec.specs.Step.{StepCall, step_call, step_verdict, step_verdict_with, StepContract}
-use borrow.Author.Rules.{rules}
 use Rattle.kept.proofs.step.Goals as goal
 use Rattle.kept.proofs.step.Lts as lts
 use Rattle.kept.proofs.step.Tie as tie

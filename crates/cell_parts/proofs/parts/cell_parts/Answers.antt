@@ -1,7 +1,7 @@
 -- `cell_parts::parts::cell_parts` meets its contract: in each arm the outcome is known, so the lists that are handed on are the bounds in force (`solvable`), and the
 -- parts by them are the cell's (`in-force`); in a field of one node the correction is all second share (`alone-told`).
 use mathlib.Core.Path.{◌≡◌, sym, ◌∙◌, ap}
-use Prim.Native.Nat.{◌-◌, ◌<◌}
+use Prim.Native.Nat.{◌<◌}
 use native.Mathlib.Omega.{arith}
 use lib.IntN.{pos, ◌-ℤ◌}
 use lib.ListN.{length}
@@ -15,7 +15,6 @@ use Rattle.qlt_spec.proofs.OperationLaws.{fits-valid}
 use Rattle.reconstruct.proofs.RebuildLaws.{solvable, number-0, number-1, number-2}
 use Rattle.query_spec.proofs.PartsLaws.{cell-low}
 use Rattle.cell_parts.proofs.CellLaws.{in-force, alone-told, correction-fits}
-use borrow.Author.Rules.{rules}
 use Rattle.cell_parts.proofs.parts.cell_parts.Goals as goal
 
 pub returns-then-parents-eq1 : goal.returns-then-parents-eq1

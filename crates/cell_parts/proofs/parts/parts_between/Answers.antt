@@ -6,7 +6,6 @@ use mir.ValLaws.{to_z-of_z}
 use Rattle.numbers.specs.Lists.{at_ℤ}
 use Rattle.query_spec.specs.Parts.{parts_by}
 use Rattle.cell_parts.proofs.CellLaws.{between}
-use borrow.Author.Rules.{rules}
 use Rattle.cell_parts.proofs.parts.parts_between.Goals as goal
 
 pub returns : goal.returns

@@ -9,7 +9,6 @@ use Rattle.numbers.proofs.SignedLaws.{sub-fits}
 use Rattle.query_spec.specs.Parts.{parts_by}
 use Rattle.query_spec.proofs.PartsLaws.{parts-path}
 use Rattle.cell_parts.proofs.CellLaws.{correction-fits}
-use borrow.Author.Rules.{rules}
 use Rattle.cell_parts.proofs.parts.parts_by.Goals as goal
 
 -- a difference, as it stands in the result

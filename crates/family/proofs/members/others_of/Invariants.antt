@@ -1,14 +1,10 @@
 -- `family::members::others_of` meets its contract: after j members the sum is that of the totals of the first j but i.
-use mathlib.Core.Path.{◌≡◌, ◌∙◌, ap}
+use mathlib.Core.Path.{◌≡◌}
 use mathlib.Core.Bool.{not}
 use Prim.Native.Nat.{◌≤◌, ◌-◌, ◌*◌}
-use native.Mathlib.Omega.{arith}
-use native.Mathlib.Numerals.{add-one}
 use lib.Dec.{eqb}
 use Rattle.numbers.specs.Sums.{ℕ_adds, sum_to, pick}
-use Rattle.numbers.proofs.SumLaws.{sum_to-next}
-use Rattle.family_spec.specs.Family.{total_of, others}
-use borrow.Author.Rules.{rules}
+use Rattle.family_spec.specs.Family.{total_of}
 use Rattle.family.proofs.members.others_of.Given as goal
 
 abbrev pub invariant-loop-j : goal.invariant-loop-j

@@ -5,7 +5,6 @@ use native.Mathlib.Omega.{arith}
 use lib.Dec.{leb}
 use Rattle.numbers.specs.Checks.{unless}
 use Rattle.family_spec.proofs.FamilyLaws.{room-checked}
-use borrow.Author.Rules.{rules}
 use Rattle.family.proofs.verdict.check_cap.Goals as goal
 
 pub overflow_add-sum : goal.overflow_add-sum

@@ -3,7 +3,6 @@ use mathlib.Core.Path.{◌∙◌}
 use Rattle.numbers.specs.Checks.{unless}
 use Rattle.family_spec.specs.Member.{check_opened}
 use borrow.Author.Tests.{le-leb, lt-leb}
-use borrow.Author.Rules.{rules}
 use Rattle.family.proofs.verdict.check_opened.Goals as goal
 
 pub returns-then-i-gt7 : goal.returns-then-i-gt7

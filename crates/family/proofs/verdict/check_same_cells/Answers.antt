@@ -1,6 +1,5 @@
 -- `family::verdict::check_same_cells` meets its contract: its test is the definition's.
 use Rattle.family_spec.specs.Member.{check_same_cells}
-use borrow.Author.Rules.{rules}
 use Rattle.family.proofs.verdict.check_same_cells.Goals as goal
 
 pub returns : goal.returns

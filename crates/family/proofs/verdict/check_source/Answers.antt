@@ -13,7 +13,6 @@ use Rattle.family_spec.specs.Family.{total_of, room}
 use Rattle.family_spec.specs.Member.{check_room}
 use Rattle.family_spec.proofs.FamilyLaws.{source-passes, source-counts}
 use Rattle.kept_checks.proofs.TotalLaws.{next-read}
-use borrow.Author.Rules.{rules}
 use Rattle.family.proofs.verdict.check_source.Goals as goal
 use Rattle.family.proofs.verdict.check_source.Lts as lts
 use Rattle.family.proofs.verdict.check_source.Tie as tie

@@ -1,7 +1,6 @@
 -- `family::verdict::check_stepping` meets its contract: both checks in their order.
 use mathlib.Core.Path.{◌∙◌, ap₂}
 use Rattle.numbers.specs.Checks.{both}
-use borrow.Author.Rules.{rules}
 use Rattle.family.proofs.verdict.check_stepping.Goals as goal
 
 pub returns : goal.returns

@@ -12,7 +12,6 @@ use Rattle.kept_spec.proofs.OpenLaws.{open-with-fits}
 use Rattle.family_spec.specs.Family.{member_at, room}
 use Rattle.family_spec.specs.Member.{check_closed, check_same_cells, check_room}
 use Rattle.family_spec.proofs.AnswerLaws.{own-stops, opening-stops, room-last}
-use borrow.Author.Rules.{rules}
 use Rattle.family.proofs.verdict.opening_verdict.Goals as goal
 use Rattle.family.proofs.verdict.opening_verdict.Lts as lts
 use Rattle.family.proofs.verdict.opening_verdict.Tie as tie

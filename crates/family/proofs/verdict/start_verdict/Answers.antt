@@ -3,7 +3,6 @@ use mathlib.Core.Path.{sym, ◌∙◌, ap₂}
 use Rattle.numbers.specs.Checks.{both}
 use Rattle.numbers.proofs.CheckLaws.{both-pass}
 use Rattle.family_spec.specs.Operations.{start_verdict}
-use borrow.Author.Rules.{rules}
 use Rattle.family.proofs.verdict.start_verdict.Goals as goal
 
 pub returns : goal.returns

@@ -5,7 +5,6 @@ use Rattle.family_spec.specs.Family.{member_at, room, terms}
 use Rattle.family_spec.specs.Rules.{OpeningFits}
 use Rattle.family_spec.proofs.RuleLaws.{opening-accepts}
 use Rattle.family_spec.proofs.AnswerLaws.{open-refused, open_done}
-use borrow.Author.Rules.{rules}
 use Rattle.family.proofs.work.open_by.Goals as goal
 use Rattle.family.proofs.work.open_by.Lts as lts
 use Rattle.family.proofs.work.open_by.Tie as tie

@@ -2,7 +2,6 @@
 use mathlib.Core.Path.{sym, ◌∙◌, ap}
 use Rattle.kept_spec.specs.Step.{step_tells}
 use Rattle.family_spec.specs.Operations.{taken}
-use borrow.Author.Rules.{rules}
 use Rattle.family.proofs.work.take.Goals as goal
 
 pub returns-in-Accepted : goal.returns-in-Accepted

@@ -3,7 +3,6 @@ use mathlib.Core.Path.{ap₂, ◌∙◌}
 use Rattle.numbers.specs.Checks.{both}
 use Rattle.numbers.proofs.CheckLaws.{last}
 use Rattle.files_spec.specs.ReadField.{check_room}
-use borrow.Author.Rules.{rules}
 use Rattle.field_file.proofs.verdict.check_room.Goals as goal
 
 pub returns : goal.returns

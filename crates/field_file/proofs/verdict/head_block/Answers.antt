@@ -3,7 +3,6 @@ use mathlib.Core.Path.{ap₂, ◌∙◌}
 use native.Mathlib.Omega.{arith}
 use Rattle.numbers.specs.Checks.{both}
 use Rattle.numbers.proofs.CheckLaws.{last}
-use borrow.Author.Rules.{rules}
 use Rattle.field_file.proofs.verdict.head_block.Goals as goal
 
 pub check_sound-requires : goal.check_sound-requires

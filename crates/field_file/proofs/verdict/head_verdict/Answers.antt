@@ -11,7 +11,6 @@ use Rattle.qlt_spec.specs.Field.{Lists, lists}
 use Rattle.blocks.specs.Files.{check_file_length}
 use Rattle.files_spec.specs.ReadField.{max_field_file, block_checks, size_checks, head_verdict}
 use Rattle.blocks.proofs.FileLaws.{length-decides}
-use borrow.Author.Rules.{rules}
 use Rattle.field_file.proofs.verdict.head_verdict.Goals as goal
 
 one_block : (file : List ℕ) → check_file_length max_field_file (length file) ≡ Pass → 512 ≤ length file

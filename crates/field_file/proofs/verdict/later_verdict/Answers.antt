@@ -6,7 +6,6 @@ use Rattle.numbers.specs.Checks.{both}
 use Rattle.block_tables.specs.Tables.{HasTable, check_table, list_table}
 use Rattle.files_spec.specs.FieldFile.{cell_table, cell_blocks}
 use Rattle.files_spec.proofs.ReadLaws.{cell-fits, has_cells, has-parents, later-tables}
-use borrow.Author.Rules.{rules}
 use Rattle.field_file.proofs.verdict.later_verdict.Goals as goal
 
 pub payload_word-n-requires : goal.payload_word-n-requires

@@ -9,7 +9,6 @@ use Rattle.qlt_spec.specs.Checks.{check_nodes}
 use Rattle.blocks.specs.Files.{check_block_count}
 use Rattle.files_spec.specs.FieldFile.{field_blocks}
 use Rattle.files_spec.specs.ReadField.{room_of}
-use borrow.Author.Rules.{rules}
 use Rattle.field_file.proofs.verdict.sizes_verdict.Goals as goal
 
 pub payload_word-n-requires : goal.payload_word-n-requires

@@ -1,6 +1,5 @@
 -- `field_file::verdict::with_later` meets its contract: a head that fails is the verdict, and after one that passes the later blocks decide.
 use Rattle.numbers.proofs.CheckLaws.{on, stop, last}
-use borrow.Author.Rules.{rules}
 use Rattle.field_file.proofs.verdict.with_later.Goals as goal
 
 pub returns-in-Fail : goal.returns-in-Fail

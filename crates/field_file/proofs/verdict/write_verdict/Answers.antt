@@ -13,7 +13,6 @@ use Rattle.qlt_spec.proofs.CheckLaws.{nodes-decides}
 use Rattle.files_spec.specs.FieldFile.{field_blocks}
 use Rattle.files_spec.specs.ReadField.{room_of}
 use Rattle.files_spec.specs.WriteField.{field_write_verdict}
-use borrow.Author.Rules.{rules}
 use Rattle.field_file.proofs.verdict.write_verdict.Goals as goal
 
 -- the checks of the lists and of the buffer

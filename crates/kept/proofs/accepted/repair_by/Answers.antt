@@ -10,7 +10,6 @@ use Rattle.numbers.specs.Signed.{over}
 use Rattle.numbers.specs.Checks.{accepted, answered, max_total}
 use Rattle.qlt_spec.specs.Field.{lists}
 use Rattle.qlt_spec.specs.Operation.{ReconstructCall, reconstruct_call, ReconstructFits, RepairContract}
-use borrow.Author.Rules.{rules}
 use Rattle.kept.proofs.accepted.repair_by.Goals as goal
 use Rattle.kept.proofs.accepted.repair_by.Lts as lts
 use Rattle.kept.proofs.accepted.repair_by.Tie as tie

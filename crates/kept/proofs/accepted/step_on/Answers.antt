@@ -11,7 +11,6 @@ use Rattle.numbers.specs.Checks.{accepted}
 use Rattle.qlt_spec.specs.Field.{lists}
 use Rattle.qlt_spec.specs.Operation.{ReconstructCall, reconstruct_call, ReconstructFits, RepairContract}
 use Rattle.kept_checks.proofs.TotalLaws.{next-read}
-use borrow.Author.Rules.{rules}
 use Rattle.kept.proofs.accepted.step_on.Goals as goal
 use Rattle.kept.proofs.accepted.step_on.Lts as lts
 use Rattle.kept.proofs.accepted.step_on.Tie as tie

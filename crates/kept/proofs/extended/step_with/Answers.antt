@@ -8,7 +8,6 @@ use mir.ValLaws.{to_z-of_z}
 use Rattle.qlt_spec.specs.Field.{lists}
 use Rattle.kept_spec.specs.Step.{StepCall, step_call, step_verdict_with, StepBy}
 use Rattle.kept_spec.proofs.StepLaws.{with-fits}
-use borrow.Author.Rules.{rules}
 use Rattle.kept.proofs.extended.step_with.Goals as goal
 use Rattle.kept.proofs.extended.step_with.Lts as lts
 use Rattle.kept.proofs.extended.step_with.Tie as tie

@@ -2,10 +2,8 @@
 use mathlib.Core.Path.{sym, ap}
 use Rattle.numbers.specs.Checks.{answered}
 use Rattle.kept_spec.specs.Step.{StepResult, step_tells}
-use borrow.Author.Rules.{rules}
 use Rattle.kept.proofs.work.answer_by.Goals as goal
 use Rattle.kept.proofs.work.answer_by.Lts as lts
-use Rattle.kept.proofs.work.answer_by.Tie as tie
 use Rattle.kept.proofs.work.answer_by.Reads as reads
 
 -- places in the code at which no goal stands

@@ -3,7 +3,6 @@ use mathlib.Core.Path.{sym, ◌∙◌, ap}
 use native.Mathlib.Omega.{arith}
 use Rattle.numbers.specs.Checks.{accepted, answered}
 use Rattle.kept_spec.specs.Open.{OpenFits, open_balance, open_tells}
-use borrow.Author.Rules.{rules}
 use Rattle.kept.proofs.work.open_by.Goals as goal
 use Rattle.kept.proofs.work.open_by.Lts as lts
 use Rattle.kept.proofs.work.open_by.Tie as tie

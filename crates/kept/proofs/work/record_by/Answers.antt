@@ -10,7 +10,6 @@ use Rattle.numbers.specs.declared.Checked.TheVariants.{Pass}
 use Rattle.numbers.specs.Checks.{accepted, after, answered}
 use Rattle.book_spec.specs.Book.{entry}
 use Rattle.book_spec.specs.LentBook.{grown_buffer, grown_length}
-use borrow.Author.Rules.{rules}
 use Rattle.kept.proofs.work.record_by.Goals as goal
 use Rattle.kept.proofs.work.record_by.Lts as lts
 use Rattle.kept.proofs.work.record_by.Tie as tie

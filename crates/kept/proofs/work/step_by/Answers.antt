@@ -16,7 +16,6 @@ use Rattle.book_spec.specs.LentBook.{grown_buffer}
 use Rattle.kept_spec.specs.Step.{StepCall, step_call, Typed, next, repair_call}
 use Rattle.kept_spec.proofs.StepLaws.{fits-repair}
 use Rattle.kept.proofs.StepLaws.{fits-total, fits-book, step-done}
-use borrow.Author.Rules.{rules}
 use Rattle.kept.proofs.work.step_by.Goals as goal
 use Rattle.kept.proofs.work.step_by.Lts as lts
 use Rattle.kept.proofs.work.step_by.Tie as tie

@@ -44,7 +44,7 @@ loop-i-preserved c =
     let l = c.loop-i in
     let p = c.put_cell-end in
     let z = at_ℤ s.args.targets.now l.i in
-    let e : to_z w32 (of_z w32 z) ≡ z = to_z-of_z w32 z (record { sfits = c.put_cell-arg-in-loop-i-1.given }) in
+    let e : to_z w32 (of_z w32 z) ≡ z = to_z-of_z w32 z (record { sfits = omega arith }) in
     (omega arith, rw (add-one, ← e) (then (omega arith) l.invariant.1 p.ensures.0), omega (arith, p.ensures.1), p.auto.out ∙ l.invariant.3)
 
 pub shape_of-out : goal.shape_of-out

@@ -3,7 +3,6 @@
 use native.Mathlib.Nat.{sub-zero}
 use native.Mathlib.Omega.{arith}
 use Rattle.repair_file.proofs.FileLaws.{fronts-repaired}
-use borrow.Author.Rules.{rules}
 use Rattle.repair_file.proofs.repair.repair_lists.Goals as goal
 
 pub returns : goal.returns

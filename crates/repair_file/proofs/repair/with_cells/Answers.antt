@@ -2,7 +2,6 @@
 use mathlib.Core.Path.{sym, ap}
 use Rattle.qlt_spec.specs.Operation.{reconstruct_tells}
 use Rattle.repair_file.specs.RepairFile.{file_tells, beside}
-use borrow.Author.Rules.{rules}
 use Rattle.repair_file.proofs.repair.with_cells.Goals as goal
 
 pub returns-in-Done : goal.returns-in-Done

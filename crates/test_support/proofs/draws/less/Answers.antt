@@ -3,7 +3,6 @@ use native.Mathlib.Omega.{arith}
 use lib.IntN.{pos}
 use mir.Syntax.{w32}
 use mir.ValLaws.{to_z_pos}
-use borrow.Author.Rules.{rules}
 use Rattle.numbers.proofs.SignedLaws.{minus-parts, parts-fits32}
 use Rattle.test_support.proofs.draws.less.Goals as goal
 

@@ -1,7 +1,5 @@
 -- `test_support::fields::fill` is safe and ends: the index stays below 8.
 use Prim.Native.Nat.{◌-◌}
-use native.Mathlib.Omega.{arith}
-use borrow.Author.Rules.{rules}
 use Rattle.test_support.proofs.fields.fill.Given as goal
 
 abbrev pub invariant-loop-i : goal.invariant-loop-i

@@ -1,7 +1,5 @@
 -- `test_support::fields::fill_parents` is safe and ends: the node stays below 15.
 use Prim.Native.Nat.{◌-◌}
-use native.Mathlib.Omega.{arith}
-use borrow.Author.Rules.{rules}
 use Rattle.test_support.proofs.fields.fill_parents.Given as goal
 
 abbrev pub invariant-loop-v : goal.invariant-loop-v

@@ -1,7 +1,5 @@
 -- `test_support::input::past` meets its contract: the position stays between its start and the text's end.
 use Prim.Native.Nat.{◌≤◌, ◌-◌}
-use native.Mathlib.Omega.{arith}
-use borrow.Author.Rules.{rules}
 use lib.ListN.{length}
 use Rattle.test_support.proofs.input.past.Given as goal
 

@@ -1,8 +1,5 @@
 -- `test_support::input::value_of` is safe and ends: the index stays within the digits.
-use Prim.Native.Nat.{◌≤◌, ◌-◌}
 use native.Mathlib.Omega.{arith}
-use borrow.Author.Rules.{rules}
-use lib.ListN.{length}
 use Rattle.test_support.proofs.input.value_of.Goals as goal
 
 pub loop-i-init : goal.loop-i-init

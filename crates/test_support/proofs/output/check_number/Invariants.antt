@@ -1,6 +1,5 @@
 -- `test_support::output::check_number` is safe and ends: the check number stays a remainder.
 use Prim.Native.Nat.{◌≤◌, ◌<◌, ◌-◌}
-use native.Mathlib.Omega.{arith}
 use lib.ListN.{length}
 use Rattle.test_support.proofs.output.check_number.Given as goal
 

@@ -1,8 +1,5 @@
 -- `test_support::output::print_each` is safe and ends: the index stays within the masses.
-use Prim.Native.Nat.{◌≤◌, ◌-◌}
 use native.Mathlib.Omega.{arith}
-use borrow.Author.Rules.{rules}
-use lib.ListN.{length}
 use Rattle.test_support.proofs.output.print_each.Goals as goal
 
 pub loop-i-init : goal.loop-i-init

@@ -1,7 +1,5 @@
 -- `test_support::output::print_each` is safe and ends: the index stays within the masses.
 use Prim.Native.Nat.{◌≤◌, ◌-◌}
-use native.Mathlib.Omega.{arith}
-use borrow.Author.Rules.{rules}
 use lib.ListN.{length}
 use Rattle.test_support.proofs.output.print_each.Given as goal
 

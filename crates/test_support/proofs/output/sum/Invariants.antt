@@ -1,7 +1,5 @@
 -- `test_support::output::sum` is safe and ends: the masses passed are at most 4294967295 each.
 use Prim.Native.Nat.{◌≤◌, ◌-◌, ◌*◌}
-use native.Mathlib.Omega.{arith}
-use borrow.Author.Rules.{rules}
 use lib.ListN.{length}
 use Rattle.test_support.proofs.output.sum.Given as goal
 

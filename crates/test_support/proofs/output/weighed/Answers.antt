@@ -2,7 +2,6 @@
 use Prim.Native.Nat.{◌*◌, ◌≤◌}
 use native.Mathlib.Omega.{arith}
 use native.Mathlib.Nat.{mul-le-mul}
-use borrow.Author.Rules.{rules}
 use Rattle.test_support.proofs.output.weighed.Goals as goal
 
 product : (c : goal.After-wide) → c.stored_index.result * c.wide.result ≤ 600 * 4294967295

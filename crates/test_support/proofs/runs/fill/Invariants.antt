@@ -1,9 +1,7 @@
 -- `test_support::runs::fill` meets its contract: the position stays within the text, and the list keeps its length.
 use mathlib.Core.Path.{◌≡◌}
 use Prim.Native.Nat.{◌≤◌, ◌-◌}
-use native.Mathlib.Omega.{arith}
-use borrow.Author.Rules.{rules}
-use lib.ListN.{length, length-set}
+use lib.ListN.{length}
 use Rattle.test_support.proofs.runs.fill.Given as goal
 
 abbrev pub invariant-loop-i : goal.invariant-loop-i

@@ -2,7 +2,6 @@
 use lib.IntN.{ℤ}
 use mir.Syntax.{w64}
 use mir.Val.{to_z, of_z}
-use borrow.Author.Rules.{rules}
 use Rattle.numbers.proofs.SignedLaws.{signed, mag-parts, plain, one-part}
 use Rattle.test_support.proofs.runs.target.Goals as goal
 

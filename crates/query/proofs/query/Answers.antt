@@ -1,0 +1,6 @@
+-- `query::query` meets its contract: the text that stands at the front of the local list is handed on.
+use Rattle.text.proofs.ReportsLaws.{report-front}
+use Rattle.query.proofs.query.Goals as goal
+
+pub returns : goal.returns
+returns c = report-front c.put_query-n.ensures.0 c.put_front.ensures
