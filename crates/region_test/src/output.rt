@@ -5,7 +5,8 @@ use crate::signed::wide_signed;
 use kept_spec::Stepped;
 use qlt_spec::{Reconstructed, Repair};
 use test_support::output::{
-    STANDARD_OUTPUT, end_line, print_each, print_named, print_refusal, print_repair, print_signed, wide,
+    STANDARD_OUTPUT, end_line, print_each, print_named, print_refusal, print_repair, print_signed,
+    wide,
 };
 
 // What a round is about: the tree's kind, the node and the source.
@@ -23,14 +24,14 @@ fn print_accepted(name: &[u8], repair: Repair) {
 }
 
 // A name, and what Reconstruct answered, with the masses if it was accepted.
-pub fn print_repaired(name: &[u8], answer: Reconstructed, masses: &[u32; 8]) {
+pub fn print_repaired(name: &[u8], answer: &Reconstructed, masses: &[u32; 8]) {
     io::write_all(STANDARD_OUTPUT, name);
     match answer {
         Reconstructed::Done(repair) => {
-            print_accepted(b"done", repair);
+            print_accepted(b"done", *repair);
             print_each(masses);
         }
-        Reconstructed::Refused { number, place } => print_refusal(number, place),
+        Reconstructed::Refused { number, place } => print_refusal(*number, *place),
     }
 }
 

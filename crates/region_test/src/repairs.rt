@@ -67,7 +67,7 @@ fn told(answer: Reconstructed) -> Told {
 fn show_repair(name: &[u8], field: Field, round: Round, total: u32, masses: &mut [u32; 8]) -> Told {
     let parents = round.parents;
     let answer = repair(field, round.kind, &parents, total, masses);
-    print_repaired(name, answer, masses);
+    print_repaired(name, &answer, masses);
     told(answer)
 }
 
