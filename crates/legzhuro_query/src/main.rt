@@ -9,6 +9,7 @@ use text::Reported;
 
 // The descriptors of standard input and output.
 const STANDARD_INPUT: i32 = 0;
+
 const STANDARD_OUTPUT: i32 = 1;
 
 fn main(rt: HostRuntime) {

@@ -1,6 +1,5 @@
 -- `legzhuro_query::main` keeps to the bounds of its lists: the text that it prints fits into the list that it is in.
 use Rattle.text.proofs.ReportsLaws.{text-fits}
-use borrow.Author.Rules.{rules}
 use Rattle.legzhuro_query.proofs.main.Goals as goal
 
 pub slice_bounds-out-end : goal.slice_bounds-out-end

@@ -1,6 +1,5 @@
 -- `query_test::print_query` is safe: the text fits in the buffer.
 use Rattle.text.proofs.ReportsLaws.{text-fits}
-use borrow.Author.Rules.{rules}
 use Rattle.query_test.proofs.print_query.Goals as goal
 
 pub slice_bounds-write_all-end : goal.slice_bounds-write_all-end

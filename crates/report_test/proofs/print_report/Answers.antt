@@ -1,6 +1,5 @@
 -- `report_test::print_report` is safe: the text fits in the buffer.
 use Rattle.text.proofs.ReportsLaws.{text-fits}
-use borrow.Author.Rules.{rules}
 use Rattle.report_test.proofs.print_report.Goals as goal
 
 pub slice_bounds-write_all-end : goal.slice_bounds-write_all-end

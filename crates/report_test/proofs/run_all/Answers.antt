@@ -1,5 +1,4 @@
 -- `report_test::run_all` is safe and ends: the number rises to 1000 at most.
-use Prim.Native.Nat.{◌-◌}
 use native.Mathlib.Omega.{arith}
 use Rattle.report_test.proofs.run_all.Goals as goal
 

@@ -1,6 +1,5 @@
 -- `report_test::run_all` is safe and ends: the number rises to 1000 at most.
 use Prim.Native.Nat.{◌-◌}
-use native.Mathlib.Omega.{arith}
 use Rattle.report_test.proofs.run_all.Given as goal
 
 abbrev pub invariant-loop-number : goal.invariant-loop-number
