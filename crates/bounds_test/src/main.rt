@@ -116,7 +116,7 @@ fn run_lists(
         safe_lows,
         safe_highs,
     );
-    output::show(answer, lows, highs, safe_lows, safe_highs);
+    output::show(&answer, lows, highs, safe_lows, safe_highs);
     if let Bounded::Done = answer {
         step(
             air.len(),

@@ -14,8 +14,8 @@ fn print_bounds(name: &[u8], xs: &[u32])
 }
 
 // The answer of Bounds.
-fn print_answer(answer: Bounded) {
-    match answer {
+fn print_answer(answer: &Bounded) {
+    match *answer {
         Bounded::Done => {
             io::write_all(STANDARD_OUTPUT, b"done");
         }
@@ -24,7 +24,7 @@ fn print_answer(answer: Bounded) {
 }
 
 // The line of Bounds: the answer, and the four lists.
-pub fn show(answer: Bounded, lows: &[u32], highs: &[u32], safe_lows: &[u32], safe_highs: &[u32])
+pub fn show(answer: &Bounded, lows: &[u32], highs: &[u32], safe_lows: &[u32], safe_highs: &[u32])
     requires lows_len_bound { (length lows.now ≤ 600) × (length highs.now ≤ 600) }
     requires safe_lows_len_bound { (length safe_lows.now ≤ 600) × (length safe_highs.now ≤ 600) }
 {
