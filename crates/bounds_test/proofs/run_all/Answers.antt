@@ -1,7 +1,5 @@
 -- `bounds_test::run_all` is safe and ends: each turn moves on by at least a byte.
-use Prim.Native.Nat.{◌-◌}
 use native.Mathlib.Omega.{arith}
-use lib.ListN.{length}
 use Rattle.bounds_test.proofs.run_all.Goals as goal
 
 pub skip-at-requires : goal.skip-at-requires

@@ -3,7 +3,6 @@ use mathlib.Core.List.{List}
 use Prim.Native.Nat.{ℕ, ◌-◌, ◌≤◌}
 use native.Mathlib.Omega.{arith}
 use lib.ListN.{length, take, length-take}
-use borrow.Author.Rules.{rules}
 use Rattle.bounds_test.proofs.run_fronts.Goals as goal
 
 front : (k : ℕ) (l : List ℕ) → k ≤ 600 → length (take (k - 0) l) ≤ 600
