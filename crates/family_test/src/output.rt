@@ -3,7 +3,9 @@ ghost use Rattle.std.specs.Prelude.{◌≤◌};
 
 use crate::Run;
 use family_spec::{Family, Started};
-use test_support::output::{STANDARD_OUTPUT, end_line, print_check, print_named, print_number, wide};
+use test_support::output::{
+    STANDARD_OUTPUT, end_line, print_check, print_named, print_number, wide,
+};
 use turns::waiting_count;
 
 // What Start gave.
