@@ -9,7 +9,7 @@ use numbers::Checked;
 use numbers::checks::{and, fail_at, then};
 
 // The two check words of a block.
-#[derive(Drop)]
+#[derive(Clone, Copy)]
 pub struct CheckWords {
     pub first: u32,
     pub second: u32,

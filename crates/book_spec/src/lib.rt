@@ -3,14 +3,14 @@
 #![tactic(auto)]
 
 // The answer of a start: the book's length in bytes, or the refusal.
-#[derive(Drop)]
+#[derive(Clone, Copy)]
 pub enum BookStarted {
     Length(usize),
     Refused { number: u32, place: u32 },
 }
 
 // What a book reports: the total it opens with, the sum of the sources above 0, the size of the sum of those below, and the total it closes with.
-#[derive(Drop)]
+#[derive(Clone, Copy)]
 pub struct BookReport {
     pub opening: u32,
     pub inflow: u64,
@@ -19,7 +19,7 @@ pub struct BookReport {
 }
 
 // The answer of a reading: the book's report, or the refusal.
-#[derive(Drop)]
+#[derive(Clone, Copy)]
 pub enum BookRead {
     Report(BookReport),
     Refused { number: u32, place: u32 },

@@ -2,7 +2,7 @@
 // of their own, for this crate alone. Relies on `cell_bounds`, `bounds_spec` and `numbers`.
 #![tactic(auto)]
 
-ghost use Rattle.bounds_spec.specs.Bounds.{mixing, bounds as boundsLists, bounds_call, BoundsContract};
+ghost use Rattle.bounds_spec.specs.Bounds.{mixing, bounds as bounds_lists, bounds_call, BoundsContract};
 
 use bounds_spec::Bounded;
 
@@ -22,8 +22,8 @@ pub fn bounds(
 ) -> Bounded
     ensures { BoundsContract
         (bounds_call (mixing air.now low_ratios.now high_ratios.now)
-        (boundsLists lows.old highs.old safe_lows.old safe_highs.old)) result
-        (boundsLists lows.new highs.new safe_lows.new safe_highs.new) }
+        (bounds_lists lows.old highs.old safe_lows.old safe_highs.old)) result
+        (bounds_lists lows.new highs.new safe_lows.new safe_highs.new) }
 {
     let verdict = verdict::verdict(
         air,

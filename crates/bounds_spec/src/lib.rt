@@ -22,7 +22,7 @@ pub struct FieldRatios {
 }
 
 // The four bounds of a cell.
-#[derive(Drop)]
+#[derive(Clone, Copy)]
 pub struct CellBounds {
     pub low: TracerMass,
     pub high: TracerMass,
@@ -31,7 +31,7 @@ pub struct CellBounds {
 }
 
 // The answer of the conversion: the four lists of bounds are written, or the call is refused with 02's number and place.
-#[derive(Drop)]
+#[derive(Clone, Copy)]
 pub enum Bounded {
     Done,
     Refused { number: u32, place: u32 },

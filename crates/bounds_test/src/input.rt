@@ -6,7 +6,7 @@ use test_support::input::read_signed;
 use test_support::runs::target;
 
 // The lengths of the lists, the source of the step, and the position behind them.
-#[derive(Drop)]
+#[derive(Clone, Copy)]
 pub struct Case {
     pub air: usize,
     pub low_ratios: usize,

@@ -4,7 +4,7 @@
 #![tactic(auto)]
 
 // Split's answer: the masses are written, and `deficit` is 01's d, with its sign; or the call is refused with 01's number and place.
-#[derive(Drop)]
+#[derive(Clone, Copy)]
 pub enum SplitAnswer {
     Done { deficit: i64 },
     Refused { number: u32, place: u32 },

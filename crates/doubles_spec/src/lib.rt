@@ -4,7 +4,7 @@
 #![tactic(auto)]
 
 // The five doubles of a cell.
-#[derive(Drop)]
+#[derive(Clone, Copy)]
 pub struct CellDoubles {
     pub target: f64,
     pub low: f64,
@@ -14,7 +14,7 @@ pub struct CellDoubles {
 }
 
 // The same in whole units.
-#[derive(Drop)]
+#[derive(Clone, Copy)]
 pub struct CellUnits {
     pub target: i32,
     pub low: u32,
@@ -24,7 +24,7 @@ pub struct CellUnits {
 }
 
 // Import's answer: the units; the scale refused, with no double; or the double refused as it came, with 01's number and its field, 0 to 4.
-#[derive(Drop)]
+#[derive(Clone, Copy)]
 pub enum Imported {
     Units(CellUnits),
     BadScale,
@@ -36,21 +36,21 @@ pub enum Imported {
 }
 
 // Export's answer.
-#[derive(Drop)]
+#[derive(Clone, Copy)]
 pub enum Exported {
     Double(f64),
     Refused { number: u32, place: u32 },
 }
 
 // The answer of Export in binary32 (02, ticket 5).
-#[derive(Drop)]
+#[derive(Clone, Copy)]
 pub enum SingleExported {
     Single(f32),
     Refused { number: u32, place: u32 },
 }
 
 // The five classes of a double by IEEE 754, in the order of 02 (ticket 4).
-#[derive(Drop)]
+#[derive(Clone, Copy)]
 pub enum Class {
     Zero,
     Subnormal,
@@ -60,7 +60,7 @@ pub enum Class {
 }
 
 // For the code alone: what is left after a division.
-#[derive(Drop)]
+#[derive(Clone, Copy)]
 pub enum Rest {
     Nothing,
     LessThanHalf,
@@ -70,7 +70,7 @@ pub enum Rest {
 
 // For the code alone: a double times 2^k. Of a finite one the sign, the whole part of the size (cut at 2^52, which is out of every range)
 // and what is left of it.
-#[derive(Drop)]
+#[derive(Clone, Copy)]
 pub enum Product {
     Finite {
         negative: bool,
@@ -81,13 +81,13 @@ pub enum Product {
 }
 
 // For the code alone: what one field gives, its units or the refusal's number.
-#[derive(Drop)]
+#[derive(Clone, Copy)]
 pub enum TargetField {
     Units(i32),
     Bad(u32),
 }
 
-#[derive(Drop)]
+#[derive(Clone, Copy)]
 pub enum BoundField {
     Units(u32),
     Bad(u32),

@@ -5,7 +5,7 @@ use doubles_spec::CellDoubles;
 use test_support::input::{read_unsigned, word};
 
 // What Import is given in a case, and the position behind it.
-#[derive(Drop)]
+#[derive(Clone, Copy)]
 pub struct ImportCase {
     pub cell: CellDoubles,
     pub scale: u32,
@@ -13,7 +13,7 @@ pub struct ImportCase {
 }
 
 // The same for Export.
-#[derive(Drop)]
+#[derive(Clone, Copy)]
 pub struct ExportCase {
     pub mass: u32,
     pub scale: u32,

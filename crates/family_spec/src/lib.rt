@@ -23,28 +23,28 @@ pub struct Family {
 }
 
 // The answer of a start.
-#[derive(Drop)]
+#[derive(Clone, Copy)]
 pub enum Started {
     Done,
     Refused { number: u32, place: u32 },
 }
 
 // The answer of a registration.
-#[derive(Drop)]
+#[derive(Clone, Copy)]
 pub enum Registered {
     Done,
     Refused { number: u32, place: u32 },
 }
 
 // Who is next in turn.
-#[derive(Drop)]
+#[derive(Clone, Copy)]
 pub enum NextMember {
     Member(u32),
     Nobody,
 }
 
 // The answer of a turn: nobody waited, or the member that it served and the answer of that member's step.
-#[derive(Drop)]
+#[derive(Clone, Copy)]
 pub enum Turned {
     Idle,
     Served {
@@ -54,31 +54,31 @@ pub enum Turned {
 }
 
 // What each call gives: its answer, and the family for the next call.
-#[derive(Drop)]
+#[derive(Clone, Copy)]
 pub struct FamilyStarted {
     pub family: Family,
     pub answer: Started,
 }
 
-#[derive(Drop)]
+#[derive(Clone, Copy)]
 pub struct FamilyOpened {
     pub family: Family,
     pub answer: kept_spec::Opened,
 }
 
-#[derive(Drop)]
+#[derive(Clone, Copy)]
 pub struct FamilyStepped {
     pub family: Family,
     pub answer: kept_spec::Stepped,
 }
 
-#[derive(Drop)]
+#[derive(Clone, Copy)]
 pub struct FamilyRegistered {
     pub family: Family,
     pub answer: Registered,
 }
 
-#[derive(Drop)]
+#[derive(Clone, Copy)]
 pub struct FamilyTurned {
     pub family: Family,
     pub answer: Turned,

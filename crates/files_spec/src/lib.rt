@@ -21,7 +21,7 @@ pub const MAX_ANSWER_FILE: usize = 3072;
 pub const HEAD_USED: usize = 8;
 
 // What reading a field file answers: the sizes and M, the lists being written; or the refusal.
-#[derive(Drop)]
+#[derive(Clone, Copy)]
 pub enum FieldRead {
     Read {
         cells: usize,
@@ -35,21 +35,21 @@ pub enum FieldRead {
 }
 
 // What writing a field file answers: how many bytes the file has; or the refusal.
-#[derive(Drop)]
+#[derive(Clone, Copy)]
 pub enum FieldWritten {
     Bytes(usize),
     Refused { number: u32, place: u32 },
 }
 
 // What writing an answer file answers: how many bytes the file has; or the refusal.
-#[derive(Drop)]
+#[derive(Clone, Copy)]
 pub enum AnswerWritten {
     Bytes(usize),
     Refused { number: u32, place: u32 },
 }
 
 // What reading an answer file answers: the number of cells and what is told of the repair, the masses being written; or the refusal.
-#[derive(Drop)]
+#[derive(Clone, Copy)]
 pub enum AnswerRead {
     Read { cells: usize, repair: Repair },
     Refused { number: u32, place: u32 },

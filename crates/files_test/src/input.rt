@@ -7,7 +7,7 @@ use qlt_spec::Repair;
 use test_support::input::{read_unsigned, word};
 
 // A list's length, and the position behind it.
-#[derive(Drop)]
+#[derive(Clone, Copy)]
 pub struct Length {
     pub value: usize,
     pub next: usize,

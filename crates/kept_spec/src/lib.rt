@@ -11,7 +11,7 @@ pub struct Balance {
 }
 
 // Open's answer: the balance of the kept masses, or the refusal with 01's number and place.
-#[derive(Drop)]
+#[derive(Clone, Copy)]
 pub enum Opened {
     Accepted(Balance),
     Refused { number: u32, place: u32 },

@@ -20,7 +20,7 @@ pub struct Repair {
 }
 
 // Reconstruct's answer: the masses are written, or the call is refused with 01's number and place.
-#[derive(Drop)]
+#[derive(Clone, Copy)]
 pub enum Reconstructed {
     Done(Repair),
     Refused { number: u32, place: u32 },

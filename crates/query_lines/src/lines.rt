@@ -21,7 +21,7 @@ pub fn put_parts(out: &mut [u8], outcome: u32, parts: Parts) -> usize
 }
 
 // On which side of the sums of the safety bounds a total lies, if on any, and how far from the nearest.
-#[derive(Drop)]
+#[derive(Clone, Copy)]
 struct Side {
     pub below: bool,
     pub distance: u64,

@@ -4,7 +4,7 @@
 #![tactic(auto)]
 
 // The parts of a cell's correction, mass minus target, to which they add up: clipping, first share and second share.
-#[derive(Drop)]
+#[derive(Clone, Copy)]
 pub struct Parts {
     pub clipping: i64,
     pub first: i64,

@@ -7,7 +7,7 @@ use test_support::input::read_signed;
 use test_support::runs::{fill, word};
 
 // Where a list ends among lists that stand one behind the other, and the position behind its length in the text.
-#[derive(Drop)]
+#[derive(Clone, Copy)]
 struct End {
     end: usize,
     next: usize,

@@ -15,7 +15,7 @@ pub struct Field {
 }
 
 // A field, and the generator's state behind its draws.
-#[derive(Drop)]
+#[derive(Clone, Copy)]
 pub struct DrawnField {
     pub state: u32,
     pub field: Field,

@@ -30,7 +30,7 @@ mod signed;
 mod steps;
 
 // The generator's state, and what stands beside the kept masses of the first field and of the second.
-#[derive(Drop)]
+#[derive(Clone, Copy)]
 pub struct Run {
     pub state: u32,
     pub first: Standing,

@@ -5,7 +5,7 @@
 use qlt_spec::Repair;
 
 // What a file gives: its number of cells and what is told of the repair, the masses being written; or the refusal.
-#[derive(Drop)]
+#[derive(Clone, Copy)]
 pub enum FileRepaired {
     Done { cells: usize, repair: Repair },
     Refused { number: u32, place: u32 },

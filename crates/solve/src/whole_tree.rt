@@ -33,7 +33,7 @@ fn prepare(
 }
 
 // The change that masses make, and how much the splits share out.
-#[derive(Drop)]
+#[derive(Clone, Copy)]
 pub struct Moved {
     pub change: u64,
     pub shared: u64,
@@ -65,7 +65,7 @@ pub fn solve(
 }
 
 // What a node has after each step of a split: clipped, moved by its first share, and by both.
-#[derive(Drop)]
+#[derive(Clone, Copy)]
 pub struct Stages {
     pub clip: u64,
     pub first: u64,

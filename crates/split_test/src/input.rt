@@ -5,7 +5,7 @@ use numbers::arith::{above, index, smaller};
 use test_support::input::read_signed;
 
 // What stands before the lists of a case, and the position behind it.
-#[derive(Drop)]
+#[derive(Clone, Copy)]
 pub struct Case {
     pub targets: usize,
     pub lows: usize,

@@ -4,7 +4,7 @@ ghost use Rattle.std.specs.Prelude.{◌<◌, ◌≤◌};
 use crate::draws::{draw, less, short};
 
 // What is drawn for one cell, and the generator's state behind it.
-#[derive(Drop)]
+#[derive(Clone, Copy)]
 struct Cell {
     state: u32,
     target: i32,

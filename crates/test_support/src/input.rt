@@ -9,14 +9,14 @@ use numbers::arith::{difference, signed, smaller};
 pub const STANDARD_INPUT: i32 = 0;
 
 // An unsigned number, and the position behind it.
-#[derive(Drop)]
+#[derive(Clone, Copy)]
 pub struct Number {
     pub value: u64,
     pub next: usize,
 }
 
 // The same of a signed number.
-#[derive(Drop)]
+#[derive(Clone, Copy)]
 pub struct SignedNumber {
     pub value: i64,
     pub next: usize,

@@ -6,7 +6,7 @@ use crate::input::read_signed;
 use numbers::arith::{above, larger};
 
 // How many numbers of a run are left, the number, and the position behind the run.
-#[derive(Drop)]
+#[derive(Clone, Copy)]
 struct Run {
     left: u64,
     value: i64,

@@ -4,7 +4,7 @@
 #![tactic(auto)]
 
 // The text's length, the text being written; or the refusal of a list that is shorter than the room asked for.
-#[derive(Drop)]
+#[derive(Clone, Copy)]
 pub enum Reported {
     Text(usize),
     Refused { number: u32, place: u32 },

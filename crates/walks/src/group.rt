@@ -8,7 +8,7 @@ use crate::columns::{get_above, put};
 use scratch_spec::{FIRST, HIGH, LOW, MASS, NEXT, WEIGHT};
 
 // Two sums of one walk.
-#[derive(Drop)]
+#[derive(Clone, Copy)]
 pub struct Sums {
     pub main: u64,
     pub side: u64,
@@ -125,7 +125,7 @@ fn share_walk(
 }
 
 // What one node has after each step of a split, clipped, moved by its first share, and by both; and 01's d.
-#[derive(Drop)]
+#[derive(Clone, Copy)]
 pub struct Watched {
     pub clip: u64,
     pub first: u64,
