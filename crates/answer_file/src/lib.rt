@@ -5,9 +5,8 @@
 ghost use Rattle.files_spec.specs.WriteAnswer.{write_call, WriteContract};
 ghost use Rattle.files_spec.specs.ReadAnswer.{AnswerReadContract};
 
-use files_spec::{AnswerRead, AnswerWritten};
-use numbers::Checked;
-use numbers::checks::then;
+use files_spec::Repaired;
+use numbers::Refusal;
 use qlt_spec::Repair;
 
 mod verdict;
@@ -19,23 +18,22 @@ pub fn write_answer(
     repair: Repair,
     masses: &[u32],
     buffer: &mut [u8],
-) -> AnswerWritten
+) -> Result<usize, Refusal>
     ensures { WriteContract (write_call cells repair masses.now buffer.old) result buffer.new }
 {
-    let verdict = verdict::write_verdict(cells, repair, masses, buffer);
-    work::write_by(verdict, cells, repair, masses, buffer)
+    verdict::write_verdict(cells, repair, masses, buffer)?;
+    work::put_answer(buffer, cells, repair, masses);
+    Ok(verdict::file_length(cells))
 }
 
 // Reads an answer file's masses into the front of a list, which may be longer. A refused call writes nothing.
-pub fn read_answer(file: &[u8], masses: &mut [u32]) -> AnswerRead
+#[tactic(auto, unfolding(files_spec::specs::ReadAnswer::answer_read_verdict))]
+pub fn read_answer(file: &[u8], masses: &mut [u32]) -> Result<Repaired, Refusal>
     ensures { AnswerReadContract file.now masses.old result masses.new }
 {
-    let head = verdict::head_verdict(file, masses.len());
-    if let Checked::Fail { number, place } = head {
-        return AnswerRead::Refused { number, place };
-    }
-    let blocks = verdict::later_verdict(file);
-    let verdict = then(blocks, verdict::sum_verdict(file));
-    work::read_by(verdict, file, masses);
-    work::answer_by(verdict, file)
+    verdict::head_verdict(file, masses.len())?;
+    verdict::later_verdict(file)?;
+    verdict::sum_verdict(file)?;
+    work::read_masses(file, masses);
+    Ok(work::told(file))
 }

@@ -9,8 +9,8 @@ use block_tables::tables::{LIST, check_table, sum_column, table_blocks};
 use blocks::block::{check_sound, check_spare, payload_word};
 use blocks::files::{check_block_count, check_file_length, check_mark};
 use files_spec::{HEAD_USED, MAX_ANSWER_FILE};
-use numbers::Checked;
-use numbers::checks::{and, check_count, check_long, then, unless};
+use numbers::Refusal;
+use numbers::checks::{check_count, check_long, unless};
 use numbers::lists::sum_of;
 use qlt_spec::Repair;
 
@@ -30,84 +30,81 @@ pub fn file_length(n: usize) -> usize
 }
 
 // 3: the buffer and the masses are long enough.
-fn check_space(n: usize, buffer: usize, masses: usize) -> Checked
+#[tactic(auto, unfolding(files_spec::specs::WriteAnswer::check_space))]
+fn check_space(n: usize, buffer: usize, masses: usize) -> Result<(), Refusal>
     requires { n ≤ 512 }
     ensures { result ≡ check_space n buffer masses }
 {
-    unless(and(file_length(n) <= buffer, n <= masses), 3, 0)
+    unless(file_length(n) <= buffer && n <= masses, 3, 0)
 }
 
 // 16: the outcome is at most 2.
-fn check_outcome(outcome: u32) -> Checked
+#[tactic(auto, unfolding(files_spec::specs::WriteAnswer::check_outcome))]
+fn check_outcome(outcome: u32) -> Result<(), Refusal>
     ensures { result ≡ check_outcome outcome }
 {
     unless(outcome <= 2, 16, 1)
 }
 
 // 12: the first n masses add up to the total.
-fn check_masses(n: usize, masses: &[u32], total: u32) -> Checked
+#[tactic(auto, unfolding(files_spec::specs::WriteAnswer::check_masses))]
+fn check_masses(n: usize, masses: &[u32], total: u32) -> Result<(), Refusal>
     requires { (n ≤ 512) × (n ≤ length masses.now) }
     ensures { result ≡ check_masses n masses.now total }
 {
-    unless(sum_of(&masses[0..n]) == total as u64, 12, 0)
+    unless(sum_of(&masses[..n]) == u64::from(total), 12, 0)
 }
 
 // The chain of the writer.
-pub fn write_verdict(cells: usize, repair: Repair, masses: &[u32], buffer: &[u8]) -> Checked
+#[tactic(auto, unfolding(files_spec::specs::WriteAnswer::write_verdict))]
+pub fn write_verdict(
+    cells: usize,
+    repair: Repair,
+    masses: &[u32],
+    buffer: &[u8],
+) -> Result<(), Refusal>
     ensures { result ≡ write_verdict (write_call cells repair masses.now buffer.now) }
 {
-    let count = check_count(cells);
-    if let Checked::Fail { number, place } = count {
-        return Checked::Fail { number, place };
-    }
-    let space = check_space(cells, buffer.len(), masses.len());
-    if let Checked::Fail { number, place } = space {
-        return Checked::Fail { number, place };
-    }
-    then(
-        check_outcome(repair.outcome),
-        check_masses(cells, masses, repair.total),
-    )
+    check_count(cells)?;
+    check_space(cells, buffer.len(), masses.len())?;
+    check_outcome(repair.outcome)?;
+    check_masses(cells, masses, repair.total)
 }
 
 // Block 1's number, check words, first word, outcome and spare words.
-fn head_block(file: &[u8]) -> Checked
+fn head_block(file: &[u8]) -> Result<(), Refusal>
     requires { 512 ≤ length file.now }
     ensures { result ≡ first (answer_block_checks file.now) }
 {
-    let outcome = check_outcome(payload_word(file, 1, 2));
-    then(
-        check_sound(file, 1),
-        then(
-            check_mark(file),
-            then(outcome, check_spare(file, HEAD_USED, 1)),
-        ),
-    )
+    check_sound(file, 1)?;
+    check_mark(file)?;
+    check_outcome(payload_word(file, 1, 2))?;
+    check_spare(file, HEAD_USED, 1)
 }
 
 // n, the length and the list.
-fn sizes_verdict(file: &[u8], room: usize) -> Checked
+fn sizes_verdict(file: &[u8], room: usize) -> Result<(), Refusal>
     requires { 512 ≤ length file.now }
     ensures { result ≡ first (answer_size_checks file.now room) }
 {
     let n = payload_word(file, 1, 1) as usize;
-    let length = check_block_count(file.len(), answer_blocks(n));
-    then(check_count(n), then(length, check_long(room, n)))
+    check_count(n)?;
+    check_block_count(file.len(), answer_blocks(n))?;
+    check_long(room, n)
 }
 
 // The reader's checks of the file's length, of block 1, the sizes and the list.
-pub fn head_verdict(file: &[u8], room: usize) -> Checked
+#[tactic(auto, unfolding(files_spec::specs::ReadAnswer::answer_head_verdict))]
+pub fn head_verdict(file: &[u8], room: usize) -> Result<(), Refusal>
     ensures { result ≡ answer_head_verdict file.now room }
 {
-    let length = check_file_length(MAX_ANSWER_FILE, file.len());
-    if let Checked::Fail { number, place } = length {
-        return Checked::Fail { number, place };
-    }
-    then(head_block(file), sizes_verdict(file, room))
+    check_file_length(MAX_ANSWER_FILE, file.len())?;
+    head_block(file)?;
+    sizes_verdict(file, room)
 }
 
 // The later blocks in order.
-pub fn later_verdict(file: &[u8]) -> Checked
+pub fn later_verdict(file: &[u8]) -> Result<(), Refusal>
     requires { AnswerMeasured file.now }
     ensures { result ≡ answer_later_verdict file.now }
 {
@@ -115,10 +112,11 @@ pub fn later_verdict(file: &[u8]) -> Checked
 }
 
 // 12: the masses of the file add up to its total.
-pub fn sum_verdict(file: &[u8]) -> Checked
+#[tactic(auto, unfolding(files_spec::specs::ReadAnswer::answer_sum_verdict, files_spec::specs::WriteAnswer::check_masses))]
+pub fn sum_verdict(file: &[u8]) -> Result<(), Refusal>
     requires { AnswerMeasured file.now }
     ensures { result ≡ answer_sum_verdict file.now }
 {
     let sum = sum_column(file, LIST, 2, 0, payload_word(file, 1, 1) as usize);
-    unless(sum == payload_word(file, 1, 3) as u64, 12, 0)
+    unless(sum == u64::from(payload_word(file, 1, 3)), 12, 0)
 }

@@ -14,7 +14,7 @@ use Rattle.numbers.proofs.PartLaws.{get_d_part, written-empty, written_on}
 use Rattle.block_tables.specs.declared.tables.Table.{Table}
 use Rattle.blocks.specs.Words.{Words}
 use Rattle.blocks.specs.Blocks.{block_bytes, file_bytes, payload_word, check_sound, check_spare, check_block}
-use Rattle.block_tables.specs.Tables.{table_blocks, table_used, TableFits, table_words, table_bytes, table_word, HasTable, list_table, list_block}
+use Rattle.block_tables.specs.Tables.{table_blocks, table_used, TableFits, table_words, table_bytes, table_word, list_table, list_block}
 use Rattle.blocks.proofs.WordLaws.{words-list_to}
 use Rattle.blocks.proofs.BlockLaws.{length-block_bytes}
 use Rattle.blocks.proofs.FileLaws.{file_bytes-next, file-word}
@@ -30,9 +30,6 @@ module _ (T : Table) (g : TableFits T) where
 
   pub table_used-small : (n k : ℕ) → table_used T n k ≤ 125
   table_used-small n k = omega (arith, mul-le-mul_left w (min-le_left r (n - r * k)), g.payload)
-
-  pub records-few : r ≤ 125
-  records-few = omega (arith, mul-le-mul_right r g.some_words, g.payload)
 
   -- the block of a record is one of the table's
   pub block_in : (n i : ℕ) → i < n → i / r < table_blocks T n
@@ -145,11 +142,6 @@ module _ (T : Table) (g : TableFits T) where
       ap₂ (payload_word file) (omega (arith, mul-add-div g.some_records k (x / w), div-eq_of_lt y))
       (ap (λ a. w * a + x % w) (mul-add-mod_self_left r k (x / w) ∙ mod-eq_of_lt y) ∙ div-add-mod x w))
 
-  -- ---- reading
-
-  pub table-room : (file : List ℕ) (from n i : ℕ) → HasTable T file from n → i < n → 512 * (from + i / r) ≤ length file
-  table-room file from n i h l = omega (arith, block_in n i l, h.first, h.whole)
-
 -- a block's check goes by the number of words that the block uses
 pub used-same : (file : List ℕ) (v w : ℕ → ℕ) (b : ℕ) → v b ≡ w b → check_block file v b ≡ check_block file w b
 unfolding check_block
@@ -157,8 +149,8 @@ used-same file v w b e = ap (λ i. both (check_sound file b) (check_spare file i
 
 -- ---- lists of numbers
 
-pub list-fits : TableFits list_table
-list-fits = record { some_words = omega arith; some_records = omega arith; payload = omega arith }
+pub list_fits : TableFits list_table
+list_fits = record { some_words = omega arith; some_records = omega arith; payload = omega arith }
 
 -- a part of a list is the words of its block
 pub list-part : (n k last : ℕ) (xs : List ℕ) → n ≤ length xs → last ≡ min (125 * k + 125) n → take (last - 125 * k) (drop (125 * k) xs) ≡ list_block n xs k

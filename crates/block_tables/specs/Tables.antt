@@ -1,8 +1,7 @@
 -- Tables of records in the blocks of a file: so many words to a record, so many records to a block, and block after block. Assumes nothing.
 use Rattle.std.specs.Prelude.{List, [], ◌++◌, ℕ, zero, suc, ◌+◌, ◌*◌, ◌-◌, ◌/◌, ◌%◌, ◌≤◌, ◌<◌, min, length}
-use Rattle.numbers.specs.declared.Checked.{Checked}
 use Rattle.numbers.specs.Lists.{at, list_to}
-use Rattle.numbers.specs.Checks.{each_from}
+use Rattle.numbers.specs.Checks.{Checked, each_from}
 use Rattle.block_tables.specs.declared.tables.Table.{Table}
 use Rattle.blocks.specs.Blocks.{block_bytes, payload_word, check_block}
 

@@ -1,16 +1,14 @@
 // For the crates of files: tables of records in the blocks of a file. Each function has its whole contract.
 ghost use Rattle.std.specs.Prelude.{◌≡◌, ℕ, ◌+◌, ◌*◌, ◌-◌, ◌/◌, ◌≤◌, ◌<◌, ◌^◌, length};
-ghost use Rattle.std.specs.Int.Signed.{mag};
 ghost use Rattle.numbers.specs.Sums.{ℕ_adds, sum_to};
-ghost use Rattle.numbers.specs.Lists.{at, at_ℤ, list_to, written};
-ghost use Rattle.blocks.specs.Words.{signed_word, word_signed};
+ghost use Rattle.numbers.specs.Lists.{at, list_to, written};
+ghost use Rattle.blocks.specs.Words.{Words, word_signed};
 ghost use Rattle.blocks.specs.Blocks.{block_bytes};
 ghost use Rattle.block_tables.specs.Tables.{table_blocks, table_used, TableFits, table_bytes, table_word, HasTable, check_table, list_table, list_block};
 
 use blocks::block::{check_block, fill_block, payload_word};
-use blocks::words::{signed_word, word_signed};
-use numbers::Checked;
-use numbers::arith::least;
+use blocks::words::word_signed;
+use numbers::Refusal;
 
 // A layout: how many words a record has, and how many records a block has.
 #[derive(Clone, Copy)]
@@ -38,25 +36,18 @@ pub fn table_used(table: Table, n: usize, k: usize) -> usize
     requires { TableFits table × (table.records * k ≤ n) }
     ensures { (result ≡ table_used table n k) × (result ≤ 125) }
 {
-    table.words * least(table.records, n - table.records * k)
+    table.words * table.records.min(n - table.records * k)
 }
 
 // The table's blocks in order, from block `from` on: each by 15, then 16.
-pub fn check_table(file: &[u8], table: Table, from: usize, n: usize) -> Checked
+pub fn check_table(file: &[u8], table: Table, from: usize, n: usize) -> Result<(), Refusal>
     requires { HasTable table file.now from n × (n < 2 ^ 32) × (from + table_blocks table n ≤ 2 ^ 32) }
     ensures { result ≡ check_table table file.now from n }
 {
-    let end = from + table_blocks(table, n);
-    let mut b = from;
-    while b < end {
-        let used = table_used(table, n, b - from);
-        let checked = check_block(file, used, b);
-        if let Checked::Fail { number, place } = checked {
-            return Checked::Fail { number, place };
-        }
-        b += 1;
+    for b in from..from + table_blocks(table, n) {
+        check_block(file, table_used(table, n, b - from), b)?;
     }
-    Checked::Pass
+    Ok(())
 }
 
 // Word j of record i, where the table starts at block `from`.
@@ -71,59 +62,55 @@ fn table_word(file: &[u8], table: Table, from: usize, j: usize, i: usize) -> u32
     )
 }
 
-// Word j of each of n records, into the front of a list; and the same as signed numbers.
-pub fn read_column(file: &[u8], table: Table, from: usize, j: usize, n: usize, list: &mut [u32])
+// An entry of a list that a table is read into: the word as it is, or the signed number that it stands for.
+pub trait Entry: Copy {
+    ghost of_word: { ℕ → Self };
+
+    fn of_word(word: u32) -> Self
+        ensures { result ≡ of_word word };
+}
+
+impl Entry for u32 {
+    ghost of_word = { λ w. w };
+
+    fn of_word(word: u32) -> u32 {
+        word
+    }
+}
+
+impl Entry for i32 {
+    ghost of_word = { word_signed };
+
+    fn of_word(word: u32) -> i32 {
+        word_signed(word)
+    }
+}
+
+// Word j of each of n records, into the front of a list.
+pub fn read_column<T: Entry>(
+    file: &[u8],
+    table: Table,
+    from: usize,
+    j: usize,
+    n: usize,
+    list: &mut [T],
+)
     requires { HasTable table file.now from n × (j < table.words) × (n ≤ length list.old) }
-    ensures { list.new ≡ written list.old 0 (list_to n (table_word table file.now from j)) }
+    ensures { list.new ≡ written list.old 0 (list_to n (λ i. T.of_word (table_word table file.now from j i))) }
 {
-    let mut i: usize = 0;
-    while i < n {
-        list[i] = table_word(file, table, from, j, i);
-        i += 1;
+    for i in 0..n {
+        list[i] = T::of_word(table_word(file, table, from, j, i));
     }
 }
 
-pub fn read_signed(file: &[u8], table: Table, from: usize, j: usize, n: usize, list: &mut [i32])
-    requires { HasTable table file.now from n × (j < table.words) × (n ≤ length list.old) }
-    ensures { list.new ≡ written list.old 0 (list_to n (λ i. word_signed (table_word table file.now from j i))) }
-{
-    let mut i: usize = 0;
-    while i < n {
-        list[i] = word_signed(table_word(file, table, from, j, i));
-        i += 1;
-    }
-}
-
-// The other way: the words of the first n numbers of a signed list, into the front of a list. Each of these numbers has 32 bits.
-pub fn signed_words(list: &[i32], n: usize, words: &mut [u32])
-    requires { (n ≤ length list.now) × (n ≤ length words.old) }
-    ensures words_after { words.new ≡ written words.old 0 (list_to n (λ i. signed_word (at_ℤ list.now i))) }
-    ensures by_index { (i : ℕ) → i < n → mag (at_ℤ list.now i) < 2 ^ 31 }
-{
-    let mut i: usize = 0;
-    while i < n {
-        words[i] = signed_word(list[i]);
-        i += 1;
-    }
-}
-
-// Word j of record i, with room to add up; and the sum of word j of each of n records.
-fn wide_word(file: &[u8], table: Table, from: usize, j: usize, i: usize) -> u64
-    requires { TableFits table × (0 < from) × (512 * (from + i / table.records) ≤ length file.now) × (j < table.words) }
-    ensures { (result ≡ table_word table file.now from j i) × (result < 2 ^ 32) }
-{
-    table_word(file, table, from, j, i) as u64
-}
-
+// The sum of word j of each of n records.
 pub fn sum_column(file: &[u8], table: Table, from: usize, j: usize, n: usize) -> u64
     requires { HasTable table file.now from n × (j < table.words) × (n ≤ 1024) }
     ensures { (result ≡ sum_to ℕ_adds n (table_word table file.now from j)) × (result < 2 ^ 42) }
 {
-    let mut sum: u64 = 0;
-    let mut i: usize = 0;
-    while i < n {
-        sum += wide_word(file, table, from, j, i);
-        i += 1;
+    let mut sum = 0;
+    for i in 0..n {
+        sum += u64::from(table_word(file, table, from, j, i));
     }
     sum
 }
@@ -135,24 +122,21 @@ fn put_list_block(buffer: &mut [u8], from: usize, list: &[u32], n: usize, k: usi
         (block_bytes (from + k) (list_block n list.now k)) }
 {
     let first = 125 * k;
-    let last = least(first + 125, n);
-    let at = 512 * (from + k - 1);
-    let end = at + 512;
-    let number = (from + k) as u32;
-    fill_block(&mut buffer[at..end], number, &list[first..last]);
+    let last = (first + 125).min(n);
+    let number = from + k;
+    let at = 512 * (number - 1);
+    fill_block(&mut buffer[at..at + 512], number as u32, &list[first..last]);
 }
 
-// All blocks of these numbers.
+// All blocks of these numbers, each of which has 32 bits.
 pub fn put_list(buffer: &mut [u8], from: usize, list: &[u32], n: usize)
     requires { (0 < from) × (n < 2 ^ 32) × (from + table_blocks list_table n ≤ 2 ^ 32) × (n ≤ length list.now) ×
         (512 * (from - 1 + table_blocks list_table n) ≤ length buffer.old) }
-    ensures { buffer.new ≡ written buffer.old (512 * (from - 1))
+    ensures buffer_after { buffer.new ≡ written buffer.old (512 * (from - 1))
         (table_bytes list_table n (λ i j. at list.now i) from (table_blocks list_table n)) }
+    ensures words { Words list.now }
 {
-    let count = table_blocks(LIST, n);
-    let mut k: usize = 0;
-    while k < count {
+    for k in 0..table_blocks(LIST, n) {
         put_list_block(buffer, from, list, n, k);
-        k += 1;
     }
 }

@@ -1,9 +1,8 @@
 -- Laws of blocks: what the checks mean, and that a block passes exactly if it is the bytes of some words at its number. Assumes nothing.
-use Rattle.std.proofs.Common.{◌≡◌, ℕ, zero, suc, ◌+◌, ◌-◌, ◌*◌, ◌/◌, ◌%◌, ◌^◌, ◌<◌, ◌≤◌, Bool, true, false, cond, ◌&&◌, eqb, ltb, leb, ◌↔◌, List, [], ◌∷◌, ◌++◌, length, take, drop, sym, refl, ap, ◌∙◌, subst, append_assoc, sub-one, arith, length-append, drop_of_length-le, drop-drop, le-leb}
+use Rattle.std.specs.Prelude.{Ok}
+use Rattle.std.proofs.Common.{◌≡◌, ℕ, zero, suc, ◌+◌, ◌-◌, ◌*◌, ◌%◌, ◌^◌, ◌<◌, ◌≤◌, Bool, true, false, cond, eqb, ◌↔◌, List, [], ◌∷◌, ◌++◌, length, take, drop, sym, refl, ap, ◌∙◌, subst, append_assoc, arith, length-append, drop_of_length-le, drop-drop}
 use native.Mathlib.Decide.{dec_lt}
-use borrow.Author.Tests.{lt-leb}
 use lib.ListN.{get_or-eq_default}
-use Rattle.numbers.specs.declared.Checked.TheVariants.{Pass}
 use Rattle.numbers.specs.Sums.{ℕ_adds, sum_to}
 use Rattle.numbers.specs.Lists.{at, list_to, written}
 use Rattle.numbers.specs.Checks.{Decides, rule_for, Holds, DecidesAll}
@@ -18,18 +17,16 @@ use Rattle.blocks.proofs.WordLaws.{length-words_bytes, words_bytes-next, words_b
 
 -- ---- whether a file has a block
 
--- as the code tests it
-pub has_block-is : (file : List ℕ) (b : ℕ) → ltb 0 b && leb b (length file / 512) ≡ has_block file b
-unfolding has_block
-has_block-is file b = ap (λ t. leb 1 b && t) (same (dec_lt (length file / 512) b))
-  where
-    same : Dec (length file / 512 < b) → leb b (length file / 512) ≡ leb (512 * b) (length file)
-    same (yes l) = lt-leb b (length file / 512) l ∙ sym (lt-leb (512 * b) (length file) (omega arith))
-    same (no l) = le-leb b (length file / 512) (omega arith) ∙ sym (le-leb (512 * b) (length file) (omega arith))
-
 pub has_block-means : (file : List ℕ) (b : ℕ) → (has_block file b ≡ true) ↔ ((0 < b) × (512 * b ≤ length file))
 unfolding has_block
 has_block-means file b = and-means (lt-means 0 b) (le-means (512 * b) (length file))
+
+pub has_block-out : (file : List ℕ) (b : ℕ) → (0 < b → 512 * b ≤ length file → ⊥) → has_block file b ≡ false
+has_block-out file b n = go (has_block file b) (has_block-means file b).0
+  where
+    go : (t : Bool) → (t ≡ true → (0 < b) × (512 * b ≤ length file)) → t ≡ false
+    go true h = absurd (n (h refl).0 (h refl).1)
+    go false h = refl
 
 pub has_block-in : (file : List ℕ) (b : ℕ) → 0 < b → 512 * b ≤ length file → has_block file b ≡ true
 has_block-in file b z h = (has_block-means file b).1 (z, h)
@@ -96,11 +93,6 @@ block-word file b k z h l =
 pub head_word-zero : (b : ℕ) (ws : List ℕ) (i : ℕ) → i ≡ 0 → b ≡ head_word b ws i
 unfolding head_word
 head_word-zero b ws i e = rw e
-
-pub head_word-next : (b : ℕ) (ws : List ℕ) (i : ℕ) → (i ≡ 0 → ⊥) → at ws (i - 1) ≡ head_word b ws i
-unfolding head_word
-head_word-next b ws zero n = absurd (n refl)
-head_word-next b ws (suc k) n = rw sub-one
 
 pub head_word-suc : (b : ℕ) (ws : List ℕ) (k : ℕ) → head_word b ws (suc k) ≡ at ws k
 unfolding head_word
@@ -226,7 +218,7 @@ unfolding check_block
 block-decides file used b h =
     decides-then (check_sound file b) (check_spare file (used b) b) (rule_for 15 b (SoundBlock (block_of file b) b)) (rule_for 16 b (SpareZero file (used b) b) ∷ []) (sound-decides file b) (alone (check_spare file (used b) b) (rule_for 16 b (SpareZero file (used b) b)) (spare-decides file (used b) b h))
 
-pub block-fits : (file : List ℕ) (used : ℕ → ℕ) (b : ℕ) → used b ≤ 125 → (check_block file used b ≡ Pass) ↔ (SoundBlock (block_of file b) b × SpareZero file (used b) b)
+pub block-fits : (file : List ℕ) (used : ℕ → ℕ) (b : ℕ) → used b ≤ 125 → (check_block file used b ≡ Ok tt) ↔ (SoundBlock (block_of file b) b × SpareZero file (used b) b)
 unfolding Holds
 block-fits file used b u =
     let d = block-decides file used b u in
@@ -235,7 +227,7 @@ block-fits file used b u =
 -- ---- a block passes exactly if it is the bytes of some words at its number
 
 -- the bytes of words pass
-pub block-passes : (file : List ℕ) (used : ℕ → ℕ) (b : ℕ) → 0 < b → b < 2 ^ 32 → 512 * b ≤ length file → used b ≤ 125 → IsBlock (block_of file b) (used b) b → check_block file used b ≡ Pass
+pub block-passes : (file : List ℕ) (used : ℕ → ℕ) (b : ℕ) → 0 < b → b < 2 ^ 32 → 512 * b ≤ length file → used b ≤ 125 → IsBlock (block_of file b) (used b) b → check_block file used b ≡ Ok tt
 block-passes file used b z s h u i =
     let ws : List ℕ = i.words in
     (block-fits file used b u).1 (
@@ -287,7 +279,7 @@ module _ (file : List ℕ) (used b : ℕ) (y : Bytes file) (z : 0 < b) (h : 512 
   pub own_same : SoundBlock (block_of file b) b → SpareZero file used b → block_of file b ≡ block_bytes b own
   own_same s t = sound-block file b own y z h s (own-word t)
 
-pub block-means : (file : List ℕ) (used : ℕ → ℕ) (b : ℕ) → Bytes file → 0 < b → b < 2 ^ 32 → 512 * b ≤ length file → used b ≤ 125 → (check_block file used b ≡ Pass) ↔ IsBlock (block_of file b) (used b) b
+pub block-means : (file : List ℕ) (used : ℕ → ℕ) (b : ℕ) → Bytes file → 0 < b → b < 2 ^ 32 → 512 * b ≤ length file → used b ≤ 125 → (check_block file used b ≡ Ok tt) ↔ IsBlock (block_of file b) (used b) b
 block-means file used b y z s h u = (
   λ q.
       let r = (block-fits file used b u).0 q in

@@ -1,9 +1,9 @@
 -- Laws of files of blocks: how a file is put together and taken apart, and that every block passes exactly if the file is the bytes of some
 -- words. Assumes nothing.
+use Rattle.std.specs.Prelude.{Ok}
 use Rattle.std.proofs.Common.{◌≡◌, ℕ, zero, suc, ◌+◌, ◌-◌, ◌*◌, ◌%◌, ◌^◌, ◌<◌, ◌≤◌, min, ◌↔◌, List, ◌++◌, length, take, drop, sym, refl, ap, ◌∙◌, subst, ap₂, sub-one, arith, length-append, length-drop, length-take-le, take_all, ext_get_or, take-add, drop_at}
 use native.Mathlib.Decide.{dec_lt, ℕ_discrete}
 use lib.Seq.{take-append-le, drop-append-le}
-use Rattle.numbers.specs.declared.Checked.TheVariants.{Pass}
 use Rattle.numbers.specs.Lists.{at, list_to}
 use Rattle.numbers.specs.Checks.{each_from, Decides, rule, rule_for}
 use Rattle.numbers.proofs.TestLaws.{and-means, lt-means, le-means, eq-means}
@@ -31,7 +31,7 @@ unfolding check_mark
 mark-decides file = decides-for _ 16 1 (eq-means (payload_word file 1 0) 512)
 
 -- the blocks after the first, in turn
-pub later-fits : (file : List ℕ) (used : ℕ → ℕ) → ((b : ℕ) → used b ≤ 125) → (k : ℕ) → (each_from (check_block file used) 2 (k - 1) ≡ Pass) ↔ ((b : ℕ) → 2 ≤ b → b ≤ k → SoundBlock (block_of file b) b × SpareZero file (used b) b)
+pub later-fits : (file : List ℕ) (used : ℕ → ℕ) → ((b : ℕ) → used b ≤ 125) → (k : ℕ) → (each_from (check_block file used) 2 (k - 1) ≡ Ok tt) ↔ ((b : ℕ) → 2 ≤ b → b ≤ k → SoundBlock (block_of file b) b × SpareZero file (used b) b)
 later-fits file used u k =
     let t = each-passes (check_block file used) 2 (k - 1) in
     (λ e b l h. (block-fits file used b (u b)).0 (t.0 e b l (omega arith)), λ f. t.1 (λ b l h. (block-fits file used b (u b)).1 (f b l (omega arith))))
@@ -140,7 +140,7 @@ file-word ws k b j z l s m w =
     ∙ written-word b (ws b) (suc j) s w (omega arith)
     ∙ head_word-suc b (ws b) j
 
-pub file-passes : (ws : ℕ → List ℕ) (used : ℕ → ℕ) (k b : ℕ) → 0 < b → b ≤ k → b < 2 ^ 32 → used b ≤ 125 → length (ws b) ≡ used b → Words (ws b) → check_block (file_bytes ws k) used b ≡ Pass
+pub file-passes : (ws : ℕ → List ℕ) (used : ℕ → ℕ) (k b : ℕ) → 0 < b → b ≤ k → b < 2 ^ 32 → used b ≤ 125 → length (ws b) ≡ used b → Words (ws b) → check_block (file_bytes ws k) used b ≡ Ok tt
 file-passes ws used k b z l s u n w =
     block-passes (file_bytes ws k) used b z s (omega (arith, length-file_bytes ws k)) u
     (record { words = ws b; count = n; fit = w; same = file-block ws k b z l })
@@ -162,7 +162,7 @@ module _ (file : List ℕ) (used : ℕ → ℕ) (k : ℕ) (s : k < 2 ^ 32) (u : 
         let h : j < used b = omega (arith, i.count b z l) in
         sym (get_d-list_to (used b) (payload_word file b) j 0 h ∙ words-read j (omega (arith, u b))))
 
-    pub words-pass : check_block file used b ≡ Pass
+    pub words-pass : check_block file used b ≡ Ok tt
     words-pass = ap (λ x. check_block x used b) i.same ∙ file-passes i.words used k b z l (omega arith) (u b) (i.count b z l) (i.fit b z l)
 
   -- so a file is the bytes of any words that agree with them
@@ -180,7 +180,7 @@ module _ (file : List ℕ) (used : ℕ → ℕ) (k : ℕ) (s : k < 2 ^ 32) (u : 
         }
 
     -- by each block's check
-    pub file-means : ((b : ℕ) → 0 < b → b ≤ k → check_block file used b ≡ Pass) ↔ IsFile file used k
+    pub file-means : ((b : ℕ) → 0 < b → b ≤ k → check_block file used b ≡ Ok tt) ↔ IsFile file used k
     file-means = (λ q. own-file (λ b z l. (block-fits file used b (u b)).0 (q b z l)), words-pass)
 
     -- by what the checks mean
@@ -188,7 +188,7 @@ module _ (file : List ℕ) (used : ℕ → ℕ) (k : ℕ) (s : k < 2 ^ 32) (u : 
     file_fits = (own-file, λ i b z l. (block-fits file used b (u b)).0 (words-pass i b z l))
 
     -- by the verdict on the blocks in turn
-    pub file-each : (each_from (check_block file used) 1 k ≡ Pass) ↔ IsFile file used k
+    pub file-each : (each_from (check_block file used) 1 k ≡ Ok tt) ↔ IsFile file used k
     file-each =
         let t = each-passes (check_block file used) 1 k in
         (λ q. file-means.0 (λ b z l. t.0 q b z (omega arith)), λ i. t.1 (λ b z l. words-pass i b z (omega arith)))

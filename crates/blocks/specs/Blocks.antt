@@ -1,10 +1,9 @@
 -- Blocks of 512 bytes ('Files' of 01): 128 words, of which word 0 is the block's number, 1 to 125 are its payload, and 126 and 127 are
 -- check words. Files are blocks numbered from 1. Assumes nothing.
 use Rattle.std.specs.Prelude.{◌≡◌, ℕ, zero, suc, ◌+◌, ◌-◌, ◌*◌, ◌%◌, ◌^◌, ◌<◌, ◌≤◌, Bool, cond, ◌&&◌, List, [], ◌∷◌, ◌++◌, length, take, drop, ◌==◌, nat_eq, nat_le}
-use Rattle.numbers.specs.declared.Checked.{Checked}
 use Rattle.numbers.specs.Sums.{ℕ_adds, sum_to}
 use Rattle.numbers.specs.Lists.{at}
-use Rattle.numbers.specs.Checks.{unless, both, every_from, Rule, rule_for}
+use Rattle.numbers.specs.Checks.{Checked, unless, both, every_from, Rule, rule_for}
 use Rattle.blocks.specs.Words.{word_at, word_bytes, words_bytes, Words}
 
 -- ---- check words

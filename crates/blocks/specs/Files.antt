@@ -1,7 +1,6 @@
 -- Checks of a file as a whole, whatever its blocks hold ('Read a field file' of 01). Assumes nothing.
 use Rattle.std.specs.Prelude.{◌≡◌, ℕ, ◌*◌, ◌%◌, ◌<◌, ◌≤◌, ◌&&◌, List, ◌==◌, nat_le, nat_lt}
-use Rattle.numbers.specs.declared.Checked.{Checked}
-use Rattle.numbers.specs.Checks.{unless}
+use Rattle.numbers.specs.Checks.{Checked, unless}
 use Rattle.blocks.specs.Blocks.{payload_word}
 
 -- 14: the length is not 0, not over `most`, and a multiple of 512

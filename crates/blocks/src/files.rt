@@ -3,18 +3,20 @@ ghost use Rattle.std.specs.Prelude.{◌≡◌, ◌^◌, ◌<◌, ◌≤◌, leng
 ghost use Rattle.blocks.specs.Files.{check_file_length, check_block_count, check_mark};
 
 use crate::block::payload_word;
-use numbers::Checked;
-use numbers::checks::{and, unless};
+use numbers::Refusal;
+use numbers::checks::unless;
 
 // 14: the length is not 0, not over `most`, and a multiple of 512.
-pub fn check_file_length(most: usize, l: usize) -> Checked
+#[tactic(auto, unfolding(crate::specs::Files::check_file_length))]
+pub fn check_file_length(most: usize, l: usize) -> Result<(), Refusal>
     ensures { result ≡ check_file_length most l }
 {
-    unless(and(0 < l, and(l <= most, l % 512 == 0)), 14, 0)
+    unless(0 < l && l <= most && l % 512 == 0, 14, 0)
 }
 
 // 14: the length is that of k blocks.
-pub fn check_block_count(l: usize, k: usize) -> Checked
+#[tactic(auto, unfolding(crate::specs::Files::check_block_count))]
+pub fn check_block_count(l: usize, k: usize) -> Result<(), Refusal>
     requires { k < 2 ^ 33 }
     ensures { result ≡ check_block_count l k }
 {
@@ -22,7 +24,8 @@ pub fn check_block_count(l: usize, k: usize) -> Checked
 }
 
 // 16: the first payload word of block 1 is 512.
-pub fn check_mark(file: &[u8]) -> Checked
+#[tactic(auto, unfolding(crate::specs::Files::check_mark))]
+pub fn check_mark(file: &[u8]) -> Result<(), Refusal>
     requires { 512 ≤ length file.now }
     ensures { result ≡ check_mark file.now }
 {

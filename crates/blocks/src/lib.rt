@@ -13,7 +13,7 @@ pub fn payload(file: &[u8], number: usize) -> &[u8]
     ensures { PayloadContract file.now number file.entry.ref_ptr result.now result.ref_ptr }
 {
     let length = file.len();
-    if numbers::checks::and(0 < number, number <= length / 512) {
+    if 0 < number && number <= length / 512 {
         let at = 512 * (number - 1) + 4;
         let end = at + 500;
         return &file[at..end];

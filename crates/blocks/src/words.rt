@@ -3,21 +3,13 @@ ghost use Rattle.std.specs.Prelude.{◌≡◌, ◌+◌, ◌-◌, ◌*◌, ◌<�
 ghost use Rattle.numbers.specs.Lists.{written};
 ghost use Rattle.blocks.specs.Words.{word_at, word_bytes, signed_word, word_signed, low_word, high_word, two_words};
 
-fn wide(x: u8) -> u32
-    ensures { (result ≡ x) × (result < 256) }
-{
-    x as u32
-}
-
 // The word whose first byte is at `i`.
+#[tactic(auto, unfolding(crate::specs::Words::word_at))]
 pub fn word_at(bytes: &[u8], i: usize) -> u32
     requires { i + 4 ≤ length bytes.now }
     ensures { result ≡ word_at bytes.now i }
 {
-    wide(bytes[i])
-        + 256 * wide(bytes[i + 1])
-        + 65536 * wide(bytes[i + 2])
-        + 16777216 * wide(bytes[i + 3])
+    u32::from_le_bytes([bytes[i], bytes[i + 1], bytes[i + 2], bytes[i + 3]])
 }
 
 // Stores a word from `i` on.
@@ -25,31 +17,20 @@ pub fn put_word(bytes: &mut [u8], i: usize, x: u32)
     requires { i + 4 ≤ length bytes.old }
     ensures { bytes.new ≡ written bytes.old i (word_bytes x) }
 {
-    bytes[i] = (x % 256) as u8;
-    bytes[i + 1] = (x / 256 % 256) as u8;
-    bytes[i + 2] = (x / 65536 % 256) as u8;
-    bytes[i + 3] = (x / 16777216 % 256) as u8;
+    bytes[i..i + 4].copy_from_slice(&x.to_le_bytes());
 }
 
 // The number that a word stands for in two's complement, and the word of a number.
 pub fn word_signed(x: u32) -> i32
     ensures { result ≡ word_signed x }
 {
-    if x < 2147483648 {
-        x as i32
-    } else {
-        -1 - (4294967295 - x) as i32
-    }
+    x.cast_signed()
 }
 
 pub fn signed_word(z: i32) -> u32
     ensures { result ≡ signed_word z }
 {
-    if z < 0 {
-        4294967295 - (-1 - z) as u32
-    } else {
-        z as u32
-    }
+    z.cast_unsigned()
 }
 
 // The two words of a number of 64 bits, and the number that two words make.
@@ -68,5 +49,5 @@ pub fn high_word(x: u64) -> u32
 pub fn two_words(low: u32, high: u32) -> u64
     ensures { result ≡ two_words low high }
 {
-    low as u64 + high as u64 * 4294967296
+    u64::from(low) + u64::from(high) * 4294967296
 }

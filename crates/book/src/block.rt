@@ -7,21 +7,15 @@ ghost use Rattle.book_spec.specs.Book.{used_of};
 ghost use Rattle.book_spec.specs.ReadBook.{least_used, is_next, check_used, check_outcomes, check_unused, check_opens, check_follows, check_book_block};
 
 use blocks::block::{check_sound, payload_word};
-use numbers::Checked;
-use numbers::checks::{fail_at, then};
+use blocks::words::word_signed;
+use numbers::Refusal;
+use numbers::checks::unless;
 
 // Whether a total is the one before it plus a source, given as its word.
 fn is_next(before: u32, word: u32, total: u32) -> bool
     ensures { result ≡ is_next before (word_signed word) total }
 {
-    let b = before as u64;
-    let w = word as u64;
-    let t = total as u64;
-    if w < 2147483648 {
-        t == b + w
-    } else {
-        t + (4294967296 - w) == b
-    }
+    i64::from(total) == i64::from(before) + i64::from(word_signed(word))
 }
 
 // Whether each new total of the records used follows from the one before.
@@ -29,28 +23,24 @@ fn totals_follow(file: &[u8], number: usize, used: usize) -> bool
     requires { (0 < number) × (512 * number ≤ length file.now) × (used ≤ 41) }
     ensures { result ≡ every_from (λ i. is_next (payload_word file.now number (3 * i)) (word_signed (payload_word file.now number (3 * i + 1))) (payload_word file.now number (3 * i + 3))) 0 used }
 {
-    let mut i: usize = 0;
-    while i < used {
+    for i in 0..used {
         let before = payload_word(file, number, 3 * i);
         let word = payload_word(file, number, 3 * i + 1);
         let total = payload_word(file, number, 3 * i + 3);
         if !is_next(before, word, total) {
             return false;
         }
-        i += 1;
     }
     true
 }
 
 // 12: each new total of the records used follows.
-fn check_follows(file: &[u8], number: usize, used: usize) -> Checked
+#[tactic(auto, unfolding(book_spec::specs::ReadBook::check_follows))]
+fn check_follows(file: &[u8], number: usize, used: usize) -> Result<(), Refusal>
     requires { (0 < number) × (512 * number ≤ length file.now) × (number < 2 ^ 32) × (used ≤ 41) × (used ≡ used_of file.now number) }
     ensures { result ≡ check_follows file.now number }
 {
-    if totals_follow(file, number, used) {
-        return Checked::Pass;
-    }
-    fail_at(12, number)
+    unless(totals_follow(file, number, used), 12, number as u32)
 }
 
 // Whether each outcome of the records used is at most 2.
@@ -58,25 +48,21 @@ fn outcomes_hold(file: &[u8], number: usize, used: usize) -> bool
     requires { (0 < number) × (512 * number ≤ length file.now) × (used ≤ 41) }
     ensures { result ≡ every_from (λ i. leb (payload_word file.now number (3 * i + 2)) 2) 0 used }
 {
-    let mut i: usize = 0;
-    while i < used {
+    for i in 0..used {
         if 2 < payload_word(file, number, 3 * i + 2) {
             return false;
         }
-        i += 1;
     }
     true
 }
 
 // 16: the outcomes of the records used.
-fn check_outcomes(file: &[u8], number: usize, used: usize) -> Checked
+#[tactic(auto, unfolding(book_spec::specs::ReadBook::check_outcomes))]
+fn check_outcomes(file: &[u8], number: usize, used: usize) -> Result<(), Refusal>
     requires { (0 < number) × (512 * number ≤ length file.now) × (number < 2 ^ 32) × (used ≤ 41) × (used ≡ used_of file.now number) }
     ensures { result ≡ check_outcomes file.now number }
 {
-    if outcomes_hold(file, number, used) {
-        return Checked::Pass;
-    }
-    fail_at(16, number)
+    unless(outcomes_hold(file, number, used), 16, number as u32)
 }
 
 // Whether the words of the records not used are 0.
@@ -84,39 +70,34 @@ fn unused_zero(file: &[u8], number: usize, used: usize) -> bool
     requires { (0 < number) × (512 * number ≤ length file.now) × (used ≤ 41) }
     ensures { result ≡ every_from (λ j. eqb (payload_word file.now number j) 0) (3 * used + 1) (123 - 3 * used) }
 {
-    let mut j = 3 * used + 1;
-    while j < 124 {
+    for j in 3 * used + 1..124 {
         if payload_word(file, number, j) != 0 {
             return false;
         }
-        j += 1;
     }
     true
 }
 
 // 16: the words of the records not used.
-fn check_unused(file: &[u8], number: usize, used: usize) -> Checked
+#[tactic(auto, unfolding(book_spec::specs::ReadBook::check_unused))]
+fn check_unused(file: &[u8], number: usize, used: usize) -> Result<(), Refusal>
     requires { (0 < number) × (512 * number ≤ length file.now) × (number < 2 ^ 32) × (used ≤ 41) × (used ≡ used_of file.now number) }
     ensures { result ≡ check_unused file.now number }
 {
-    if unused_zero(file, number, used) {
-        return Checked::Pass;
-    }
-    fail_at(16, number)
+    unless(unused_zero(file, number, used), 16, number as u32)
 }
 
 // 12: a later block opens with the closing total of the block before.
-fn check_opens(file: &[u8], number: usize) -> Checked
+#[tactic(auto, unfolding(book_spec::specs::ReadBook::check_opens))]
+fn check_opens(file: &[u8], number: usize) -> Result<(), Refusal>
     requires { (0 < number) × (512 * number ≤ length file.now) × (number < 2 ^ 32) }
     ensures { result ≡ check_opens file.now number }
 {
     if number <= 1 {
-        return Checked::Pass;
+        return Ok(());
     }
-    if payload_word(file, number, 0) == payload_word(file, number - 1, 123) {
-        return Checked::Pass;
-    }
-    fail_at(12, number)
+    let opens = payload_word(file, number, 0) == payload_word(file, number - 1, 123);
+    unless(opens, 12, number as u32)
 }
 
 // The fewest records of a block.
@@ -124,47 +105,39 @@ fn least_used(blocks: usize, number: usize) -> usize
     ensures { result ≡ least_used blocks number }
 {
     if number < blocks {
-        return 41;
+        41
+    } else if 1 < number {
+        1
+    } else {
+        0
     }
-    if 1 < number { 1 } else { 0 }
 }
 
 // 16: the number of records used.
-fn check_used(file: &[u8], blocks: usize, number: usize) -> Checked
+#[tactic(auto, unfolding(book_spec::specs::ReadBook::check_used))]
+fn check_used(file: &[u8], blocks: usize, number: usize) -> Result<(), Refusal>
     requires { (0 < number) × (512 * number ≤ length file.now) × (number < 2 ^ 32) }
     ensures { result ≡ check_used file.now blocks number }
 {
     let used = payload_word(file, number, 124) as usize;
-    if used < least_used(blocks, number) {
-        return fail_at(16, number);
-    }
-    if 41 < used {
-        return fail_at(16, number);
-    }
-    Checked::Pass
-}
-
-// The records of a block whose number of them is in order.
-fn check_records(file: &[u8], number: usize, used: usize) -> Checked
-    requires { (0 < number) × (512 * number ≤ length file.now) × (number < 2 ^ 32) × (used ≤ 41) × (used ≡ used_of file.now number) }
-    ensures { result ≡ first (check_outcomes file.now number ∷ check_unused file.now number ∷ check_opens file.now number ∷ check_follows file.now number ∷ []) }
-{
-    let totals = then(check_opens(file, number), check_follows(file, number, used));
-    then(
-        check_outcomes(file, number, used),
-        then(check_unused(file, number, used), totals),
+    unless(
+        least_used(blocks, number) <= used && used <= 41,
+        16,
+        number as u32,
     )
 }
 
 // 15, 16 and 12 of a block.
-pub fn check_book_block(file: &[u8], blocks: usize, number: usize) -> Checked
+#[tactic(auto, unfolding(book_spec::specs::ReadBook::check_book_block))]
+pub fn check_book_block(file: &[u8], blocks: usize, number: usize) -> Result<(), Refusal>
     requires { (0 < number) × (512 * number ≤ length file.now) × (number < 2 ^ 32) }
     ensures { result ≡ check_book_block file.now blocks number }
 {
-    let head = then(check_sound(file, number), check_used(file, blocks, number));
-    if let Checked::Fail { number, place } = head {
-        return Checked::Fail { number, place };
-    }
+    check_sound(file, number)?;
+    check_used(file, blocks, number)?;
     let used = payload_word(file, number, 124) as usize;
-    check_records(file, number, used)
+    check_outcomes(file, number, used)?;
+    check_unused(file, number, used)?;
+    check_opens(file, number)?;
+    check_follows(file, number, used)
 }

@@ -9,18 +9,15 @@ use crate::record::add_entry;
 use crate::verdict::{MAX_BYTES, file_verdict};
 use blocks::files::check_file_length;
 use blocks::words::signed_word;
-use numbers::Checked;
+use numbers::Refusal;
 
 // The checks of a step that goes on from a total: 14, block by block 15, 16 and 12, then 12 at the last block, then 21. A length that
 // passes 14 lies in the buffer.
-pub fn check_lent(book: &[u8], told: usize, total: u32) -> Checked
+pub fn check_lent(book: &[u8], told: usize, total: u32) -> Result<(), Refusal>
     requires { max_bytes ≤ length book.now }
     ensures { result ≡ first (lent_checks book.now told total) }
 {
-    let size = check_file_length(MAX_BYTES, told);
-    if let Checked::Fail { number, place } = size {
-        return Checked::Fail { number, place };
-    }
+    check_file_length(MAX_BYTES, told)?;
     file_verdict(&book[0..told], total)
 }
 
@@ -29,8 +26,5 @@ pub fn add_record(book: &mut [u8], told: usize, source: i32, outcome: u32, total
     requires { HasBook book.old told (held_in book.old told) × (count (held_in book.old told) < max_entries) }
     ensures { (book.new ≡ grown_buffer book.old told (entry source outcome total)) × (result ≡ grown_length book.old told) }
 {
-    let mut words = [0u32; 125];
-    let word = signed_word(source);
-    let blocks = add_entry(book, &mut words, told / 512, word, outcome, total);
-    512 * blocks
+    512 * add_entry(book, told / 512, signed_word(source), outcome, total)
 }

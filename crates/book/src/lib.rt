@@ -6,8 +6,8 @@
 ghost use Rattle.book_spec.specs.ReadBook.{BookReadContract};
 ghost use Rattle.book_spec.specs.StartBook.{BookStartContract};
 
-use book_spec::{BookRead, BookStarted};
-use numbers::Checked;
+use book_spec::BookReport;
+use numbers::Refusal;
 
 mod block;
 pub mod lent;
@@ -17,25 +17,18 @@ mod verdict;
 
 // Writes a book without records, which opens with the total, to the front of the buffer, and returns its length, 512. The buffer needs room
 // for a full book, 32768 bytes. A refused call writes nothing.
-pub fn start_book(total: u32, buffer: &mut [u8]) -> BookStarted
+pub fn start_book(total: u32, buffer: &mut [u8]) -> Result<usize, Refusal>
     ensures { BookStartContract total buffer.old result buffer.new }
 {
-    let verdict = verdict::start_verdict(total, buffer);
-    if let Checked::Fail { number, place } = verdict {
-        return BookStarted::Refused { number, place };
-    }
+    verdict::start_verdict(total, buffer)?;
     record::put_empty(buffer, total);
-    BookStarted::Length(512)
+    Ok(512)
 }
 
 // Reads a book, alone in a file, and returns its report.
-pub fn read_book(file: &[u8]) -> BookRead
+pub fn read_book(file: &[u8]) -> Result<BookReport, Refusal>
     ensures { BookReadContract file.now result }
 {
-    let verdict = verdict::book_verdict(file);
-    if let Checked::Fail { number, place } = verdict {
-        return BookRead::Refused { number, place };
-    }
-    let report = report::report(file);
-    BookRead::Report(report)
+    verdict::book_verdict(file)?;
+    Ok(report::report(file))
 }

@@ -13,10 +13,8 @@ fn load_words(file: &[u8], number: usize, words: &mut [u32])
     requires { (0 < number) × (512 * number ≤ length file.now) × (length words.old ≡ 125) }
     ensures { words.new ≡ list_to 125 (payload_word file.now number) }
 {
-    let mut i: usize = 0;
-    while i < 125 {
+    for i in 0..125 {
         words[i] = payload_word(file, number, i);
-        i += 1;
     }
 }
 
@@ -37,37 +35,28 @@ pub fn put_block(buffer: &mut [u8], number: usize, words: &[u32])
     ensures { buffer.new ≡ written buffer.old (512 * (number - 1)) (block_bytes number words.now) }
 {
     let at = 512 * (number - 1);
-    let end = at + 512;
-    let n = number as u32;
-    fill_block(&mut buffer[at..end], n, words);
+    fill_block(&mut buffer[at..at + 512], number as u32, words);
 }
 
 // Adds a record to a book of `blocks` blocks that is not full, in its last block or in one more, and returns how many it then has.
-// `words` are 125 zeros.
-pub fn add_entry(
-    buffer: &mut [u8],
-    words: &mut [u32],
-    blocks: usize,
-    word: u32,
-    outcome: u32,
-    total: u32,
-) -> usize
-    requires { HasBook buffer.old (512 * blocks) (held_in buffer.old (512 * blocks)) × (count (held_in buffer.old (512 * blocks)) < max_entries) × (words.old ≡ replicate 125 0) }
+pub fn add_entry(buffer: &mut [u8], blocks: usize, word: u32, outcome: u32, total: u32) -> usize
+    requires { HasBook buffer.old (512 * blocks) (held_in buffer.old (512 * blocks)) × (count (held_in buffer.old (512 * blocks)) < max_entries) }
     ensures { (buffer.new ≡ grown_buffer buffer.old (512 * blocks) (entry (word_signed word) outcome total)) ×
         (result ≡ book_blocks (suc (count (held_in buffer.old (512 * blocks))))) }
 {
+    let mut words = [0; 125];
     let used = payload_word(buffer, blocks, 124) as usize;
     if used < 41 {
-        load_words(buffer, blocks, words);
-        enter(words, used, word, outcome, total);
-        put_block(buffer, blocks, words);
-        return blocks;
+        load_words(buffer, blocks, &mut words);
+        enter(&mut words, used, word, outcome, total);
+        put_block(buffer, blocks, &words);
+        blocks
+    } else {
+        words[0] = payload_word(buffer, blocks, 123);
+        enter(&mut words, 0, word, outcome, total);
+        put_block(buffer, blocks + 1, &words);
+        blocks + 1
     }
-    let last = payload_word(buffer, blocks, 123);
-    words[0] = last;
-    enter(words, 0, word, outcome, total);
-    put_block(buffer, blocks + 1, words);
-    blocks + 1
 }
 
 // A book without records: one block, which opens with the total.

@@ -8,7 +8,9 @@ ghost use Rattle.book_spec.specs.Book.{count, closing, max_entries, report_of, b
 ghost use Rattle.book_spec.specs.ReadBook.{BookFits};
 
 use blocks::block::payload_word;
+use blocks::words::word_signed;
 use book_spec::BookReport;
+use numbers::arith::above;
 
 // How many records it has.
 pub fn count_of(file: &[u8]) -> usize
@@ -29,55 +31,21 @@ pub fn closing_of(file: &[u8]) -> u32
     payload_word(file, blocks, 3 * used)
 }
 
-// What a source has above 0, and the size of one below 0, by its word.
-fn above(word: u32) -> u64
-    ensures { (result ≡ over (word_signed word)) × (result ≤ 2147483648) }
-{
-    let size = word as u64;
-    if word < 2147483648 { size } else { 0 }
-}
-
-fn below(word: u32) -> u64
-    ensures { (result ≡ under (word_signed word)) × (result ≤ 2147483648) }
-{
-    let w = word as u64;
-    let size = 4294967296 - w;
-    if word < 2147483648 { 0 } else { size }
-}
-
-// The word of the source of record i.
-fn source_word(file: &[u8], i: usize) -> u32
-    requires { 512 * (1 + i / 41) ≤ length file.now }
-    ensures { result ≡ payload_word file.now (1 + i / 41) (3 * (i % 41) + 1) }
-{
-    payload_word(file, 1 + i / 41, 3 * (i % 41) + 1)
-}
-
 // The sum of the sources above 0, and the size of the sum of those below.
-fn sum_above(file: &[u8], n: usize) -> u64
+fn flows(file: &[u8], n: usize) -> (u64, u64)
     requires { (n ≤ max_entries) × (n ≤ 41 * (length file.now / 512)) }
-    ensures { result ≡ sum_to ℕ_adds n (λ i. over (word_signed (payload_word file.now (1 + i / 41) (3 * (i % 41) + 1)))) }
+    ensures inflow { result.0 ≡ sum_to ℕ_adds n (λ i. over (word_signed (payload_word file.now (1 + i / 41) (3 * (i % 41) + 1)))) }
+    ensures outflow { result.1 ≡ sum_to ℕ_adds n (λ i. under (word_signed (payload_word file.now (1 + i / 41) (3 * (i % 41) + 1)))) }
 {
-    let mut sum: u64 = 0;
-    let mut i: usize = 0;
-    while i < n {
-        sum += above(source_word(file, i));
-        i += 1;
+    let mut inflow = 0;
+    let mut outflow = 0;
+    for i in 0..n {
+        let source = word_signed(payload_word(file, 1 + i / 41, 3 * (i % 41) + 1));
+        let below = above(-i64::from(source));
+        inflow += above(i64::from(source));
+        outflow += below;
     }
-    sum
-}
-
-fn sum_below(file: &[u8], n: usize) -> u64
-    requires { (n ≤ max_entries) × (n ≤ 41 * (length file.now / 512)) }
-    ensures { result ≡ sum_to ℕ_adds n (λ i. under (word_signed (payload_word file.now (1 + i / 41) (3 * (i % 41) + 1)))) }
-{
-    let mut sum: u64 = 0;
-    let mut i: usize = 0;
-    while i < n {
-        sum += below(source_word(file, i));
-        i += 1;
-    }
-    sum
+    (inflow, outflow)
 }
 
 // Its report.
@@ -87,8 +55,7 @@ pub fn report(file: &[u8]) -> BookReport
 {
     let n = count_of(file);
     let opening = payload_word(file, 1, 0);
-    let inflow = sum_above(file, n);
-    let outflow = sum_below(file, n);
+    let (inflow, outflow) = flows(file, n);
     let closing = closing_of(file);
     BookReport {
         opening,

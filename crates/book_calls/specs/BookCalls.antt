@@ -1,9 +1,8 @@
 -- The calls from C on books: what each returns and leaves in the lists lent to it. A list that is too short for a call's values is refused with 3,
 -- before all else. Assumes nothing.
 use Rattle.std.specs.Prelude.{◌≡◌, List, [], ◌∷◌, ℕ, length}
-use Rattle.numbers.specs.declared.Checked.{Checked}
 use Rattle.numbers.specs.Lists.{at, written}
-use Rattle.numbers.specs.Checks.{after, first, check_long}
+use Rattle.numbers.specs.Checks.{Checked, after, first, check_long}
 use Rattle.blocks.specs.Words.{Bytes}
 use Rattle.book_spec.specs.declared.BookReport.{BookReport}
 use Rattle.book_spec.specs.Book.{book, book_bytes, book_of, report_of}

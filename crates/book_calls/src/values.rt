@@ -10,22 +10,20 @@ pub const START_VALUES: usize = 1;
 
 pub const REPORT_VALUES: usize = 4;
 
-// Each of these puts the values of an accepted call and returns 0.
-pub fn put_length(bytes: usize, answer: &mut [u64]) -> u64
+// Each of these puts the values of an accepted call.
+pub fn put_length(bytes: usize, answer: &mut [u64])
     requires { start_values ≤ length answer.old }
-    ensures { (result ≡ 0) × (answer.new ≡ written answer.old 0 (bytes ∷ [])) }
+    ensures { answer.new ≡ written answer.old 0 (bytes ∷ []) }
 {
     answer[0] = bytes as u64;
-    0
 }
 
-pub fn put_report(report: BookReport, answer: &mut [u64]) -> u64
+pub fn put_report(report: BookReport, answer: &mut [u64])
     requires { report_values ≤ length answer.old }
-    ensures { (result ≡ 0) × (answer.new ≡ written answer.old 0 (report_words report)) }
+    ensures { answer.new ≡ written answer.old 0 (report_words report) }
 {
-    answer[0] = report.opening as u64;
+    answer[0] = u64::from(report.opening);
     answer[1] = report.inflow;
     answer[2] = report.outflow;
-    answer[3] = report.closing as u64;
-    0
+    answer[3] = u64::from(report.closing);
 }

@@ -4,14 +4,14 @@
 
 ghost use Rattle.book_report.specs.Report.{BookReportContract};
 
-use text::Reported;
+use numbers::Refusal;
 use text::pieces::put_front;
 
 mod work;
 
 // Writes the line for a book to the front of `out`: what it opens with, the sums in and out, and what it closes with; or its refusal. `out`
 // needs 128 bytes; a shorter one is refused with 3 and left as it was.
-pub fn report_book(file: &[u8], out: &mut [u8]) -> Reported
+pub fn report_book(file: &[u8], out: &mut [u8]) -> Result<usize, Refusal>
     ensures { BookReportContract file.now out.old result out.new }
 {
     let mut text = [0u8; 128];

@@ -1,4 +1,5 @@
 -- Bytes pass the checks exactly if they are those of a book whose totals follow, and what is read off them is that book. Assumes nothing.
+use Rattle.std.specs.Prelude.{Ok}
 use mathlib.Core.Path.{◌≡◌, refl, sym, ◌∙◌, ap, ap₂, subst}
 use mathlib.Core.Bool.{Bool, true, false, cond}
 use mathlib.Core.List.{List, [], ◌∷◌}
@@ -10,7 +11,6 @@ use lib.Dec.{eqb}
 use lib.IntN.{ℤ, pos, ◌+ℤ◌}
 use lib.ListN.{length}
 use lib.Seq.{ext_get_or}
-use Rattle.numbers.specs.declared.Checked.TheVariants.{Pass}
 use Rattle.numbers.specs.Lists.{at, list_to}
 use Rattle.numbers.specs.Checks.{Holds}
 use Rattle.numbers.proofs.ListLaws.{length-list_to, get_d-list_to}
@@ -159,7 +159,7 @@ module _ (B : Book) where
         total-next m = unfold total_after in refl
 
     -- the bytes of a book pass
-    pub book-passes : book_verdict (length file) file ≡ Pass
+    pub book-passes : book_verdict (length file) file ≡ Ok tt
     book-passes =
         (book-accepts (length file) file).1
         (record {

@@ -1,60 +1,44 @@
--- The book's definitions as code meets them: a source by its word, with no signed number. Assumes nothing.
-use mathlib.Core.Path.{◌≡◌, refl, sym, ◌∙◌, ap, ap₂}
-use Prim.Native.Nat.{ℕ, ◌+◌, ◌-◌, ◌^◌, ◌≤◌, ◌<◌}
+-- The book's definitions as code meets them: a total that follows, compared in 64 bits, and the number of records of a block. Assumes nothing.
+use Rattle.std.specs.Prelude.{Ok}
+use mathlib.Core.Path.{◌≡◌, sym, ◌∙◌, ap}
+use mir.Syntax.{w64}
+use mir.Val.{to_z, of_z}
+use native.Mathlib.Decide.{ℕ_discrete}
+use lib.IntN.{ℤ, pos, negsuc, ◌+ℤ◌}
+use lib.Signed.{mag}
+use Rattle.numbers.proofs.SignedLaws.{read_back, add_parts, one-part, about}
+use Prim.Native.Nat.{ℕ, ◌+◌, ◌*◌, min, ◌^◌, ◌≤◌, ◌<◌}
 use native.Mathlib.Omega.{arith}
-use borrow.Author.Tests.{lt-ltb, le-ltb}
+use borrow.Author.Tests.{eq-eqb, ne_eqb}
 use lib.Dec.{eqb}
-use Rattle.numbers.specs.declared.Checked.{Checked}
-use Rattle.numbers.specs.declared.Checked.TheVariants.{Pass, Fail}
 use Rattle.numbers.specs.Signed.{over, under}
-use Rattle.numbers.specs.Checks.{both, first}
-use Rattle.numbers.proofs.CheckLaws.{on, stop, both-assoc, both-second}
-use Rattle.blocks.specs.Words.{word_signed}
-use Rattle.blocks.specs.Blocks.{check_sound}
 use Rattle.book_spec.specs.Book.{used_of}
-use Rattle.book_spec.specs.ReadBook.{is_next, check_used, check_outcomes, check_unused, check_opens, check_follows, check_book_block}
+use Rattle.book_spec.specs.ReadBook.{is_next, check_used}
 use Rattle.book_spec.proofs.ReadLaws.{used-decides}
-use mathlib.Core.List.{List, [], ◌∷◌}
+use mathlib.Core.List.{List}
 
--- the parts of the number that a word stands for
-pub word-above : (w : ℕ) → w < 2147483648 → (over (word_signed w) ≡ w) × (under (word_signed w) ≡ 0)
-unfolding word_signed
-word-above w h = rw (lt-ltb w 2147483648 h) (refl, refl)
+-- ---- a total follows: the sum of signed numbers of 64 bits is compared
 
-pub word_below : (w : ℕ) → 2147483648 ≤ w → w < 2 ^ 32 → (over (word_signed w) ≡ 0) × (under (word_signed w) ≡ 4294967296 - w)
-unfolding word_signed
-word_below w h l = rw (le-ltb w 2147483648 h) (refl, omega arith)
+bits-parts : (z : ℤ) → under z < 2 ^ 63 → of_z w64 z + under z ≡ over z + min 1 (under z) * 2 ^ 64
+bits-parts (pos n) h = omega arith
+bits-parts (negsuc n) h = omega arith
 
-pub next-above : (before w total : ℕ) → w < 2147483648 → eqb total (before + w) ≡ is_next before (word_signed w) total
+same-test : (a b c d : ℕ) → (a ≡ b → c ≡ d) → (c ≡ d → a ≡ b) → eqb a b ≡ eqb c d
+same-test a b c d f g = go (ℕ_discrete a b)
+  where
+    go : Dec (a ≡ b) → eqb a b ≡ eqb c d
+    go (yes e) = eq-eqb a b e ∙ sym (eq-eqb c d (f e))
+    go (no n) = ne_eqb a b n ∙ sym (ne_eqb c d (λ e. n (g e)))
+
+pub next_is : (before total : ℕ) (s x y z : ℤ) → before < 2 ^ 32 → total < 2 ^ 32 → mag s < 2 ^ 31 → x ≡ pos total → y ≡ pos before → z ≡ s → eqb (of_z w64 x) (of_z w64 (to_z w64 (of_z w64 y) +ℤ to_z w64 (of_z w64 z))) ≡ is_next before s total
 unfolding is_next
-next-above before w total h =
-    let p = word-above w h in
-    let e : total ≡ total + under (word_signed w) = omega (arith, p.1) in
-    let f : before + w ≡ before + over (word_signed w) = ap (λ x. before + x) (sym p.0) in
-    ap₂ eqb e f
+next_is before total s x y z hb ht hs ex ey ez =
+    let p : to_z w64 (of_z w64 y) ≡ pos before = ap (λ a. to_z w64 (of_z w64 a)) ey ∙ read_back (pos before) (omega arith) in
+    let q : to_z w64 (of_z w64 z) ≡ s = ap (λ a. to_z w64 (of_z w64 a)) ez ∙ read_back s (omega arith) in
+    let n = pos before +ℤ s in
+    rw (ex, p, q) (same-test total (of_z w64 n) (total + under s) (before + over s) (λ e. omega (arith, e, add_parts (pos before) s, one-part n, one-part s, about s, hs, hb, ht, bits-parts n (omega (arith, add_parts (pos before) s, about s, hs)))) (λ e. omega (arith, e, add_parts (pos before) s, one-part n, one-part s, about s, hs, hb, ht, bits-parts n (omega (arith, add_parts (pos before) s, about s, hs)))))
 
-pub next-below : (before w total : ℕ) → 2147483648 ≤ w → w < 2 ^ 32 → eqb (total + (4294967296 - w)) before ≡ is_next before (word_signed w) total
-unfolding is_next
-next-below before w total h l =
-    let p = word_below w h l in
-    let e : total + (4294967296 - w) ≡ total + under (word_signed w) = ap (λ x. total + x) (sym p.1) in
-    let f : before ≡ before + over (word_signed w) = omega (arith, p.0) in
-    ap₂ eqb e f
+-- ---- the records of a block are read where their number is in order
 
--- ---- a block's checks in two parts: the records are read only where their number is in order
-
-module _ (file : List ℕ) (k b : ℕ) {h : Checked} (e : h ≡ both (check_sound file b) (check_used file k b)) where
-  pub head-stops : {n p : ℕ} → h ≡ Fail n p → Fail n p ≡ check_book_block file k b
-  unfolding check_book_block
-  head-stops f =
-      stop (first (check_outcomes file b ∷ check_unused file b ∷ check_opens file b ∷ check_follows file b ∷ [])) (sym e ∙ f)
-      ∙ both-assoc (check_sound file b) (check_used file k b) (first (check_outcomes file b ∷ check_unused file b ∷ check_opens file b ∷ check_follows file b ∷ []))
-
-  pub head-used : h ≡ Pass → used_of file b ≤ 41
-  head-used f = ((used-decides file b k).passes.0 (both-second (check_sound file b) (check_used file k b) (sym e ∙ f))).most
-
-  pub head-goes : {r : Checked} → h ≡ Pass → r ≡ first (check_outcomes file b ∷ check_unused file b ∷ check_opens file b ∷ check_follows file b ∷ []) → r ≡ check_book_block file k b
-  unfolding check_book_block
-  head-goes f g =
-      on (sym e ∙ f) g
-      ∙ both-assoc (check_sound file b) (check_used file k b) (first (check_outcomes file b ∷ check_unused file b ∷ check_opens file b ∷ check_follows file b ∷ []))
+pub used_most : (file : List ℕ) (k b : ℕ) → check_used file k b ≡ Ok tt → used_of file b ≤ 41
+used_most file k b e = ((used-decides file b k).passes.0 e).most

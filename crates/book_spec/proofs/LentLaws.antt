@@ -1,5 +1,6 @@
 -- A book at the front of a lent buffer: what a step's checks of it mean, that they refuse with 14, 15, 16, 12 and 21 alone, what holds of a book
 -- with one record more, and when a book is full. Assumes nothing.
+use Rattle.std.specs.Prelude.{Ok}
 use mathlib.Core.Path.{◌≡◌, refl, sym, ◌∙◌, ap, ap₂, subst}
 use mathlib.Core.Logic.{⊎_elim, ◌↔◌}
 use mathlib.Core.List.{List, [], ◌∷◌}
@@ -10,10 +11,8 @@ use lib.IntN.{pos, negsuc, ◌+ℤ◌}
 use lib.Signed.{◌≤ℤ◌}
 use lib.ListN.{length, take, drop}
 use lib.Seq.{drop_at}
-use Rattle.numbers.specs.declared.Checked.{Checked}
-use Rattle.numbers.specs.declared.Checked.TheVariants.{Pass, Fail}
 use Rattle.numbers.specs.Lists.{written}
-use Rattle.numbers.specs.Checks.{first, both, rule_for, rule, Decides, DecidesAll, OneOf, numbers_of, Broken, RefuseWith}
+use Rattle.numbers.specs.Checks.{Checked, refused, first, both, rule_for, rule, Decides, DecidesAll, OneOf, numbers_of, Broken, RefuseWith}
 use Rattle.numbers.proofs.TestLaws.{eq-means, lt-means}
 use Rattle.numbers.proofs.CheckLaws.{on, both-pass, both_first, both-second, decides-for, decides-unless, decides-then, decides-append, decides-none, stop}
 use Rattle.numbers.proofs.ChainLaws.{one-append, numbers-append, are-of, no_number, broken-later, refuse-append, refuse-with}
@@ -53,7 +52,7 @@ module _ (buffer : List ℕ) (l total : ℕ) where
       decides-append (book_verdict l file) _ (book_rules l file) _ (book-decides l file)
       (decides-then _ _ _ _ (closing-decides B total (l / 512)) (decides-then _ _ _ _ (full-decides B) decides-none))
 
-  pub lent-accepts : (first (lent_checks buffer l total) ≡ Pass) ↔ LentFits buffer l total
+  pub lent-accepts : (first (lent_checks buffer l total) ≡ Ok tt) ↔ LentFits buffer l total
   lent-accepts = (
     λ e.
         let t = both-second (book_verdict l file) _ e in
@@ -81,7 +80,7 @@ module _ (buffer : List ℕ) (l total : ℕ) where
       (refuse-with last (12 ∷ 21 ∷ []) refl refl) refl refl
 
   -- 21 comes last, and only where every other check has passed
-  pub lent-full : (place : ℕ) → (first (lent_checks buffer l total) ≡ Fail 21 place) ↔ ((place ≡ 0) × LentFull buffer l total)
+  pub lent-full : (place : ℕ) → (first (lent_checks buffer l total) ≡ refused 21 place) ↔ ((place ≡ 0) × LentFull buffer l total)
   lent-full place = (
     λ e.
         let h = broken-later (book_rules l file) _ 21 place (λ o. no_number _ 21 refl (book-numbers l file 21 o)) ((lent-decides.fails 21 place).0 e) in
@@ -90,7 +89,7 @@ module _ (buffer : List ℕ) (l total : ℕ) where
         sym
         (on ((book-accepts l file).1 h.1.fits)
         (on ((closing-decides B total (l / 512)).passes.1 h.1.closes)
-        (stop Pass (((full-decides B).fails 21 place).1 (refl, (h.0, λ q. omega (arith, h.1.full))))))),
+        (stop (Ok tt) (((full-decides B).fails 21 place).1 (refl, (h.0, λ q. omega (arith, h.1.full))))))),
   )
     where
       last-broken :
@@ -109,7 +108,7 @@ module _ (buffer : List ℕ) (l total : ℕ) where
 
 -- ---- a book that is there passes
 
-pub has-passes : {buffer : List ℕ} {l : ℕ} {B : Book} → HasBook buffer l B → book_verdict l (take l buffer) ≡ Pass
+pub has-passes : {buffer : List ℕ} {l : ℕ} {B : Book} → HasBook buffer l B → book_verdict l (take l buffer) ≡ Ok tt
 has-passes {buffer} {l} {B} h =
     ap (book_verdict l) h.front
     ∙ ap (λ x. book_verdict x (book_bytes B)) (h.size ∙ sym (length-book_bytes B h.formed))
@@ -119,7 +118,7 @@ has-passes {buffer} {l} {B} h =
 pub has-verdict : {buffer : List ℕ} {l : ℕ} {B : Book} (total : ℕ) → HasBook buffer l B → closing B ≡ total → first (lent_checks buffer l total) ≡ check_full B
 has-verdict {buffer} {l} {B} total h e =
     let same : held_in buffer l ≡ B = has-read h in
-    ap₂ (λ b d. both b (both d (both (check_full (held_in buffer l)) Pass))) (has-passes h)
+    ap₂ (λ b d. both b (both d (both (check_full (held_in buffer l)) (Ok tt)))) (has-passes h)
     ((closing-decides (held_in buffer l) total (l / 512)).passes.1 (ap closing same ∙ e))
     ∙ both-pass (check_full (held_in buffer l))
     ∙ ap check_full same

@@ -1,5 +1,6 @@
 -- Bytes that pass the checks are those of the book read off them, whose totals follow; so a book passes exactly if it is the bytes of a book that
 -- whose totals follow. Assumes nothing.
+use Rattle.std.specs.Prelude.{Ok}
 use mathlib.Core.Path.{◌≡◌, refl, sym, ◌∙◌, ap, ap₂, subst}
 use mathlib.Core.Logic.{◌↔◌}
 use mathlib.Core.List.{List}
@@ -9,7 +10,6 @@ use native.Mathlib.Decide.{dec_lt}
 use lib.IntN.{pos, negsuc, ◌+ℤ◌}
 use lib.Signed.{◌≤ℤ◌}
 use lib.ListN.{length}
-use Rattle.numbers.specs.declared.Checked.TheVariants.{Pass}
 use Rattle.numbers.proofs.ListLaws.{length-list_to, get_d-list_to}
 use Rattle.blocks.specs.Words.{Bytes, signed_word, word_signed}
 use Rattle.blocks.specs.Blocks.{payload_of, payload_word}
@@ -210,10 +210,10 @@ module _ (file : List ℕ) (y : Bytes file) (f : BookFits (length file) file) wh
   read-closing = ap (total_after B) read_count ∙ sym (read-after k (used_of file k) f.some (omega arith) (omega arith))
 
 -- THE theorem on reading: bytes pass exactly if they are those of a book whose totals follow
-pub book-means : (file : List ℕ) → Bytes file → (book_verdict (length file) file ≡ Pass) ↔ IsBook file
+pub book-means : (file : List ℕ) → Bytes file → (book_verdict (length file) file ≡ Ok tt) ↔ IsBook file
 book-means file y = (
   λ e. let f = (book-accepts (length file) file).0 e in record { held = book_of file; formed = read-formed file y f; same = read_same file y f },
-  λ i. subst (λ x. book_verdict (length x) x ≡ Pass) (sym i.same) (book-passes i.held i.formed),
+  λ i. subst (λ x. book_verdict (length x) x ≡ Ok tt) (sym i.same) (book-passes i.held i.formed),
 )
 
 -- and the book is the one that is read off them

@@ -1,4 +1,5 @@
 -- What reading's verdict means. Assumes nothing.
+use Rattle.std.specs.Prelude.{Ok}
 use mathlib.Core.Path.{◌≡◌, refl, sym, ap, subst}
 use mathlib.Core.Logic.{inl, inr, ⊎_elim, ◌↔◌}
 use mathlib.Core.Bool.{true}
@@ -10,10 +11,9 @@ use borrow.Author.Tests.{lt-ltb, le-ltb, le-leb, lt-leb, eqb-true, eq-eqb}
 use lib.Dec.{leb, eqb}
 use lib.IntN.{ℤ, pos, ◌+ℤ◌}
 use lib.ListN.{length}
-use Rattle.numbers.specs.declared.Checked.TheVariants.{Pass, Fail}
 use Rattle.numbers.specs.Signed.{over, under}
-use Rattle.numbers.specs.Checks.{Decides, rule_for, DecidesAll, Holds, Broken, OneOf, numbers_of, RefuseWith, rules_from}
-use Rattle.numbers.proofs.TestLaws.{injective, and-means, eq-means, le-means}
+use Rattle.numbers.specs.Checks.{refused, Decides, rule_for, DecidesAll, Holds, Broken, OneOf, numbers_of, RefuseWith, rules_from}
+use Rattle.numbers.proofs.TestLaws.{and-means, eq-means, le-means}
 use Rattle.numbers.proofs.SignedLaws.{add_parts, parts-eq}
 use Rattle.numbers.proofs.CheckLaws.{on, both_first, both-second, every-means, every-from, decides-for, decides-none, decides-then, decides-each, each-passes, answered-accepted}
 use Rattle.numbers.proofs.ChainLaws.{each_number, are-of, one-append, numbers-append}
@@ -23,10 +23,8 @@ use Rattle.blocks.specs.Files.{check_file_length}
 use Rattle.blocks.proofs.BlockLaws.{sound-decides}
 use Rattle.blocks.proofs.FileLaws.{length-decides}
 use Rattle.book_spec.specs.declared.BookReport.{BookReport}
-use Rattle.book_spec.specs.declared.BookRead.{BookRead}
-use Rattle.book_spec.specs.declared.BookRead.TheVariants.{Report, Refused}
 use Rattle.book_spec.specs.Book.{used_of, book_of, report_of, max_bytes}
-use Rattle.book_spec.specs.ReadBook.{least_used, check_used, check_outcomes, check_unused, check_opens, is_next, check_follows, check_book_block, book_verdict, Counted, Outcomes, UnusedZero, Opens, Follows, book_block_rules, book_rules, BlockFits, BookFits, book_tells, book_answer, BookReadContract, length_rule}
+use Rattle.book_spec.specs.ReadBook.{least_used, check_used, check_outcomes, check_unused, check_opens, is_next, check_follows, check_book_block, book_verdict, Counted, Outcomes, UnusedZero, Opens, Follows, book_block_rules, book_rules, BlockFits, BookFits, BookReadContract, length_rule}
 
 -- ---- each test
 
@@ -133,7 +131,7 @@ module _ (file : List ℕ) (k b : ℕ) where
     λ f. (f.sound, (f.counted, (f.outcomes, (f.unused_zero, (f.opens, (f.follows, tt)))))),
   )
 
-  pub book-block-accepts : (check_book_block file k b ≡ Pass) ↔ BlockFits file k b
+  pub book-block-accepts : (check_book_block file k b ≡ Ok tt) ↔ BlockFits file k b
   book-block-accepts = (λ e. rules-fit.0 (book-block-decides.passes.0 e), λ f. book-block-decides.passes.1 (rules-fit.1 f))
 
 module _ (l : ℕ) (file : List ℕ) where
@@ -144,7 +142,7 @@ module _ (l : ℕ) (file : List ℕ) where
       decides-then _ _ _ _ (length-decides max_bytes l)
       (decides-each (check_book_block file (l / 512)) (book_block_rules file (l / 512)) (λ b. book-block-decides file (l / 512) b) 1 (l / 512))
 
-  pub book-accepts : (book_verdict l file ≡ Pass) ↔ BookFits l file
+  pub book-accepts : (book_verdict l file ≡ Ok tt) ↔ BookFits l file
   unfolding book_verdict
   book-accepts =
       let t = each-passes (check_book_block file (l / 512)) 1 (l / 512) in
@@ -164,7 +162,7 @@ module _ (l : ℕ) (file : List ℕ) where
             (sym (t.1 (λ b i j. (book-block-accepts file (l / 512) b).1 (f.blocks b (omega arith) (omega arith)))))),
       )
 
-  pub book-refuses : (number place : ℕ) → (book_verdict l file ≡ Fail number place) ↔ Broken (book_rules l file) number place
+  pub book-refuses : (number place : ℕ) → (book_verdict l file ≡ refused number place) ↔ Broken (book_rules l file) number place
   book-refuses = book-decides.fails
 
   -- it refuses with the papers' numbers and no others; with 14 alone where there is no block
@@ -191,17 +189,7 @@ module _ (l : ℕ) (file : List ℕ) where
 
 -- ---- the answer, and from the contract alone
 
--- what an answer tells is the answer
-pub book-tells-injective : (a b : BookRead) → book_tells a ≡ book_tells b → a ≡ b
-unfolding book_tells
-book-tells-injective = injective book_answer back
-  where
-    back : (a : BookRead) → book_answer (book_tells a) ≡ a
-    back (Report r) = refl
-    back (Refused number place) = refl
-
-pub book-read-done : {file : List ℕ} {r : BookReport} → BookReadContract file (Report r) → BookFits (length file) file × (r ≡ report_of (book_of file))
-unfolding book_tells
+pub book-read-done : {file : List ℕ} {r : BookReport} → BookReadContract file (Ok r) → BookFits (length file) file × (r ≡ report_of (book_of file))
 book-read-done {file} {r} p =
     let e = answered-accepted (book_verdict (length file) file) r (report_of (book_of file)) p.answers in
     ((book-accepts (length file) file).0 e.0, e.1)

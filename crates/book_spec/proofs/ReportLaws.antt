@@ -1,4 +1,5 @@
 -- A book's account: its closing total is its opening total plus the recorded sources, and its report says so. Assumes nothing.
+use Rattle.std.specs.Prelude.{Ok}
 use mathlib.Core.Path.{◌≡◌, refl, sym, ◌∙◌, ap, subst}
 use mathlib.Core.List.{List}
 use Prim.Native.Nat.{ℕ, zero, suc, ◌+◌, ◌*◌, ◌/◌, ◌%◌, ◌≤◌, ◌<◌}
@@ -12,7 +13,6 @@ use Rattle.numbers.proofs.SumLaws.{sum_to-ext, sum_to-parts}
 use Rattle.blocks.specs.Words.{Bytes, word_signed}
 use Rattle.blocks.specs.Blocks.{payload_word}
 use Rattle.book_spec.specs.declared.BookReport.{BookReport}
-use Rattle.book_spec.specs.declared.BookRead.TheVariants.{Report}
 use Rattle.book_spec.specs.Book.{Book, count, entry_at, total_after, closing, recorded, WellFormed, report_of, used_of, entry_of, book_of}
 use Rattle.book_spec.specs.ReadBook.{BookFits, BookReadContract}
 use Rattle.book_spec.proofs.ReadLaws.{book-read-done}
@@ -42,7 +42,7 @@ module _ (B : Book) (g : WellFormed B) where
       omega (arith, ap over closing-recorded, ap under closing-recorded, add_parts (pos B.opening) (recorded B), sum_to-parts (count B) source)
 
 -- a report that was given is that of a book whose totals follow, and balances
-pub reported : {file : List ℕ} {r : BookReport} → BookReadContract file (Report r) → (r ≡ report_of (book_of file)) × (r.closing + r.outflow ≡ r.opening + r.inflow)
+pub reported : {file : List ℕ} {r : BookReport} → BookReadContract file (Ok r) → (r ≡ report_of (book_of file)) × (r.closing + r.outflow ≡ r.opening + r.inflow)
 reported {file} {r} p =
     let d = book-read-done p in
     (d.1, subst (λ q. q.closing + q.outflow ≡ q.opening + q.inflow) (sym d.1) (report-balances (book_of file) (read-formed file p.typed d.0)))

@@ -1,5 +1,5 @@
--- Starting a book: a book without records, what the verdict means, that an answer tells it and nothing else, and what the contract alone says.
--- Assumes nothing.
+-- Starting a book: a book without records, what the verdict means, and what the contract alone says. Assumes nothing.
+use Rattle.std.specs.Prelude.{Ok}
 use mathlib.Core.Path.{◌≡◌, refl, sym, ◌∙◌, ap, subst}
 use mathlib.Core.Logic.{◌↔◌}
 use mathlib.Core.List.{List, [], ◌∷◌}
@@ -7,17 +7,13 @@ use Prim.Native.Nat.{ℕ, ◌^◌, ◌<◌}
 use native.Mathlib.Omega.{arith}
 use lib.IntN.{pos}
 use lib.ListN.{length}
-use Rattle.numbers.specs.declared.Checked.TheVariants.{Pass, Fail}
 use Rattle.numbers.specs.Lists.{written}
-use Rattle.numbers.specs.Checks.{accepted, after, DecidesAll, RefuseWith, Holds, Broken}
+use Rattle.numbers.specs.Checks.{Answered, refused, after, DecidesAll, RefuseWith, Holds, Broken}
 use Rattle.numbers.proofs.SignedLaws.{le_parts, parts-le}
 use Rattle.numbers.proofs.CheckLaws.{answered-accepted, decides-then, decides-none, long-decides, total-decides}
 use Rattle.numbers.proofs.ChainLaws.{refuse-with}
-use Rattle.numbers.proofs.TestLaws.{injective}
-use Rattle.book_spec.specs.declared.BookStarted.{BookStarted}
-use Rattle.book_spec.specs.declared.BookStarted.TheVariants.{Length, Refused}
 use Rattle.book_spec.specs.Book.{book, total_after, closing, WellFormed, book_bytes, max_bytes}
-use Rattle.book_spec.specs.StartBook.{book_start_verdict, book_start_rules, book_start_tells, BookStartContract, book_start_answer, BookStartFits}
+use Rattle.book_spec.specs.StartBook.{book_start_verdict, book_start_rules, BookStartContract, BookStartFits}
 use Rattle.book_spec.specs.LentBook.{HasBook}
 use Rattle.book_spec.proofs.HeldLaws.{has-written}
 
@@ -51,27 +47,18 @@ module _ (total : ℕ) (buffer : List ℕ) where
     λ f. (f.room, ((parts-le (omega arith), parts-le (omega (arith, f.small))), tt)),
   )
 
-  pub book-start-accepts : (book_start_verdict total buffer ≡ Pass) ↔ BookStartFits total buffer
+  pub book-start-accepts : (book_start_verdict total buffer ≡ Ok tt) ↔ BookStartFits total buffer
   book-start-accepts = (λ e. rules-fit.0 (book-start-decides.passes.0 e), λ f. book-start-decides.passes.1 (rules-fit.1 f))
 
-  pub book-start-refuses : (number place : ℕ) → (book_start_verdict total buffer ≡ Fail number place) ↔ Broken (book_start_rules total buffer) number place
+  pub book-start-refuses : (number place : ℕ) → (book_start_verdict total buffer ≡ refused number place) ↔ Broken (book_start_rules total buffer) number place
   book-start-refuses = book-start-decides.fails
 
   -- it refuses with the papers' numbers and no others
   pub book-start-numbers : RefuseWith (book_start_rules total buffer) (3 ∷ 13 ∷ [])
   book-start-numbers = refuse-with (book_start_rules total buffer) _ refl refl
 
--- what an answer tells is the answer
-pub book-start-tells-injective : (a b : BookStarted) → book_start_tells a ≡ book_start_tells b → a ≡ b
-unfolding book_start_tells
-book-start-tells-injective = injective book_start_answer back
-  where
-    back : (a : BookStarted) → book_start_answer (book_start_tells a) ≡ a
-    back (Length l) = refl
-    back (Refused number place) = refl
-
 -- from the contract alone: a book without records, of 512 bytes
-pub started : {total : ℕ} {buffer left : List ℕ} {answer : BookStarted} {l : ℕ} → BookStartContract total buffer answer left → book_start_tells answer ≡ accepted l → HasBook left l (book total [])
+pub started : {total : ℕ} {buffer left : List ℕ} {answer : Answered ℕ} {l : ℕ} → BookStartContract total buffer answer left → answer ≡ Ok l → HasBook left l (book total [])
 started {total} {buffer} {left} {answer} {l} p t =
     let e = answered-accepted (book_start_verdict total buffer) l 512 (sym t ∙ p.answers) in
     let h = (book-start-accepts total buffer).0 e.0 in

@@ -1,9 +1,8 @@
 -- A book at the front of a lent buffer, as a step that goes on from a total is lent one: what the step checks of it, and the book with one record
 -- more. Assumes nothing.
 use Rattle.std.specs.Prelude.{◌≡◌, List, [], ◌∷◌, ◌++◌, ℕ, suc, ◌*◌, ◌/◌, ◌≤◌, ◌<◌, eqb, ltb, length, take}
-use Rattle.numbers.specs.declared.Checked.{Checked}
 use Rattle.numbers.specs.Lists.{written}
-use Rattle.numbers.specs.Checks.{unless, Rule, rule, rule_for}
+use Rattle.numbers.specs.Checks.{Checked, unless, Rule, rule, rule_for}
 use Rattle.blocks.specs.Words.{Bytes}
 use Rattle.book_spec.specs.Book.{Entry, Book, count, closing, add, max_entries, max_bytes, WellFormed, book_blocks, book_bytes, book_of}
 use Rattle.book_spec.specs.ReadBook.{book_verdict, book_rules, BookFits}

@@ -1,15 +1,11 @@
 -- Reading a book: its verdict, what the checks mean, and its answer. Assumes nothing.
-use Rattle.std.specs.Prelude.{◌≡◌, Bool, ◌&&◌, cond, List, [], ◌∷◌, ℕ, ◌+◌, ◌*◌, ◌-◌, ◌/◌, ◌≤◌, ◌<◌, leb, ltb, eqb, ℤ, pos, ◌+ℤ◌, length}
-use Rattle.numbers.specs.declared.Checked.{Checked}
-use Rattle.numbers.specs.declared.Checked.TheVariants.{Pass}
+use Rattle.std.specs.Prelude.{Ok, ◌≡◌, Bool, ◌&&◌, cond, List, [], ◌∷◌, ℕ, ◌+◌, ◌*◌, ◌-◌, ◌/◌, ◌≤◌, ◌<◌, leb, ltb, eqb, ℤ, pos, ◌+ℤ◌, length}
 use Rattle.numbers.specs.Signed.{over, under}
-use Rattle.numbers.specs.Checks.{Answered, accepted, refused, answered, unless, first, both, each_from, every_from, Rule, rule, rule_for, rules_from}
+use Rattle.numbers.specs.Checks.{Checked, Answered, answered, unless, first, both, each_from, every_from, Rule, rule, rule_for, rules_from}
 use Rattle.blocks.specs.Words.{Bytes, word_signed}
 use Rattle.blocks.specs.Blocks.{block_of, payload_word, check_sound, SoundBlock}
 use Rattle.blocks.specs.Files.{check_file_length, FileLength}
 use Rattle.book_spec.specs.declared.BookReport.{BookReport}
-use Rattle.book_spec.specs.declared.BookRead.{BookRead}
-use Rattle.book_spec.specs.declared.BookRead.TheVariants.{Report, Refused}
 use Rattle.book_spec.specs.Book.{Book, max_bytes, WellFormed, report_of, book_bytes, used_of, book_of}
 
 -- ---- the checks; the place is the block
@@ -32,7 +28,7 @@ check_unused file b = unless (every_from (λ j. eqb (payload_word file b j) 0) (
 
 -- 12: a later block opens with the closing total of the block before, whose 41st record ends with word 123
 unfoldable pub check_opens : List ℕ → ℕ → Checked
-check_opens file b = cond (leb b 1) Pass (unless (eqb (payload_word file b 0) (payload_word file (b - 1) 123)) 12 b)
+check_opens file b = cond (leb b 1) (Ok tt) (unless (eqb (payload_word file b 0) (payload_word file (b - 1) 123)) 12 b)
 
 -- a total, the one before it plus a source, in whole numbers
 unfoldable pub is_next : ℕ → ℤ → ℕ → Bool
@@ -112,17 +108,8 @@ pub record IsBook (file : List ℕ) : Type 0 where
 
 -- ---- the operation Read: a book's file
 
--- what an answer tells, and the answer that tells it
-unfoldable pub book_tells : BookRead → Answered BookReport
-book_tells (Report r) = accepted r
-book_tells (Refused number place) = refused number place
-
-abbrev pub book_answer : Answered BookReport → BookRead
-book_answer (accepted r) = Report r
-book_answer (refused number place) = Refused number place
-
 -- the whole contract of the operation
-pub record BookReadContract (file : List ℕ) (answer : BookRead) : Type 0 where
+pub record BookReadContract (file : List ℕ) (answer : Answered BookReport) : Type 0 where
   -- what the type of the file says
   pub typed : Bytes file
-  pub answers : book_tells answer ≡ answered (book_verdict (length file) file) (report_of (book_of file))
+  pub answers : answer ≡ answered (book_verdict (length file) file) (report_of (book_of file))

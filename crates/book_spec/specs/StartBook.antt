@@ -1,11 +1,8 @@
 -- Starting a book: its verdict, its answer, and the buffer it leaves. Assumes nothing.
 use Rattle.std.specs.Prelude.{◌≡◌, List, [], ◌∷◌, ℕ, ◌≤◌, pos, length}
-use Rattle.numbers.specs.declared.Checked.{Checked}
 use Rattle.numbers.specs.Lists.{written}
-use Rattle.numbers.specs.Checks.{Answered, accepted, refused, answered, after, first, check_long, check_total, Rule, rule, total_rule, max_total}
+use Rattle.numbers.specs.Checks.{Checked, Answered, answered, after, first, check_long, check_total, Rule, rule, total_rule, max_total}
 use Rattle.blocks.specs.Words.{Bytes}
-use Rattle.book_spec.specs.declared.BookStarted.{BookStarted}
-use Rattle.book_spec.specs.declared.BookStarted.TheVariants.{Length, Refused}
 use Rattle.book_spec.specs.Book.{max_bytes, book, book_bytes}
 
 -- 3: a buffer of fewer bytes than a full book has
@@ -26,18 +23,9 @@ pub record BookStartFits (total : ℕ) (buffer : List ℕ) : Type 0 where
   pub room : max_bytes ≤ length buffer
   pub small : total ≤ max_total
 
--- what an answer tells: the book's length in bytes; and the answer that tells it
-unfoldable pub book_start_tells : BookStarted → Answered ℕ
-book_start_tells (Length l) = accepted l
-book_start_tells (Refused number place) = refused number place
-
-abbrev pub book_start_answer : Answered ℕ → BookStarted
-book_start_answer (accepted l) = Length l
-book_start_answer (refused number place) = Refused number place
-
--- the whole contract of the operation: a book without records at the front of the buffer, whose other bytes are untouched
-pub record BookStartContract (total : ℕ) (buffer : List ℕ) (answer : BookStarted) (left : List ℕ) : Type 0 where
+-- the whole contract of the operation, whose answer is the book's length in bytes: a book without records at the front of the buffer, whose other bytes are untouched
+pub record BookStartContract (total : ℕ) (buffer : List ℕ) (answer : Answered ℕ) (left : List ℕ) : Type 0 where
   -- what the type of the buffer says
   pub typed : Bytes buffer
-  pub answers : book_start_tells answer ≡ answered (book_start_verdict total buffer) 512
+  pub answers : answer ≡ answered (book_start_verdict total buffer) 512
   pub writes : left ≡ after (book_start_verdict total buffer) (written buffer 0 (book_bytes (book total []))) buffer

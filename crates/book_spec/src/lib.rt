@@ -2,13 +2,6 @@
 // laws (proofs/) alone; the code is in the crate `book`. Relies on `blocks` and `numbers`.
 #![tactic(auto)]
 
-// The answer of a start: the book's length in bytes, or the refusal.
-#[derive(Clone, Copy)]
-pub enum BookStarted {
-    Length(usize),
-    Refused { number: u32, place: u32 },
-}
-
 // What a book reports: the total it opens with, the sum of the sources above 0, the size of the sum of those below, and the total it closes with.
 #[derive(Clone, Copy)]
 pub struct BookReport {
@@ -16,11 +9,4 @@ pub struct BookReport {
     pub inflow: u64,
     pub outflow: u64,
     pub closing: u32,
-}
-
-// The answer of a reading: the book's report, or the refusal.
-#[derive(Clone, Copy)]
-pub enum BookRead {
-    Report(BookReport),
-    Refused { number: u32, place: u32 },
 }

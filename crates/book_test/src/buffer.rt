@@ -1,16 +1,7 @@
-// The buffer of a book and its copy: bytes copied and changed, and blocks made anew with other words.
+// The buffer of a book and its copy: bytes changed, and blocks made anew with other words.
 ghost use Rattle.std.specs.Prelude.{◌≡◌, ◌<◌, ◌≤◌, length};
 
 use blocks::block::{fill_block, payload_word};
-
-// Copies a buffer.
-pub fn copy(from: &[u8; 32768], to: &mut [u8; 32768]) {
-    let mut i: usize = 0;
-    while i < 32768 {
-        to[i] = from[i];
-        i += 1;
-    }
-}
 
 // The blocks of a book with so many bytes. It has 1 to 64, so that the remainder changes none.
 pub fn blocks_of(length: usize) -> usize
@@ -23,7 +14,7 @@ pub fn blocks_of(length: usize) -> usize
 fn raised(byte: u8, plus: u32) -> u8
     requires { plus < 256 }
 {
-    ((byte as u32 + plus) % 256) as u8
+    ((u32::from(byte) + plus) % 256) as u8
 }
 
 // Adds a number to a byte.
@@ -44,10 +35,8 @@ fn word_of(bytes: &[u8; 32768], block: usize, word: usize) -> u32
 fn load_words(bytes: &[u8; 32768], block: usize, words: &mut [u32; 125])
     requires { (0 < block) × (block ≤ 64) }
 {
-    let mut i: usize = 0;
-    while i < 125 {
-        words[i] = word_of(bytes, block, i);
-        i += 1;
+    for (i, word) in words.iter_mut().enumerate() {
+        *word = word_of(bytes, block, i);
     }
 }
 

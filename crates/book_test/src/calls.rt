@@ -2,34 +2,38 @@
 ghost use Rattle.std.specs.Prelude.{◌≡◌, ◌≤◌, length};
 
 use crate::Run;
-use crate::buffer::copy;
 use crate::counts::{check, count, taken};
-use crate::damage::damage;
-use crate::faults::{given_balance, given_length, given_room, given_source, spoil};
+use crate::damage::report_damaged;
+use crate::faults::{fault_of, given_balance, given_length, given_room, given_source, spoil};
 use crate::output::{show_full, show_started};
 use book::start_book;
-use book_spec::BookStarted;
 use kept_spec::{Balance, Stepped};
-use qlt_spec::Repair;
+use numbers::Refusal;
+use qlt_spec::FieldLists;
+use std::fmt;
 use test_support::draws::{draw, more};
 use test_support::fields::{fill, fill_parents, nodes};
 
 // The check number with what an accepted step told.
-fn taken_repair(told: u64, repair: Repair, length: usize) -> u64 {
-    let first = taken(taken(told, repair.outcome as u64), repair.total as u64);
+fn taken_step(told: u64, stepped: Stepped) -> u64 {
+    let repair = stepped.repair;
+    let first = taken(
+        taken(told, u64::from(repair.outcome)),
+        u64::from(repair.total),
+    );
     let second = taken(taken(first, repair.change), repair.shared);
-    taken(second, length as u64)
+    taken(second, stepped.length as u64)
 }
 
 // The run after an accepted call.
-fn accepted(run: Run, state: u32, repair: Repair, balance: Balance, length: usize) -> Run {
+fn accepted(run: Run, state: u32, stepped: Stepped) -> Run {
     Run {
         state,
-        balance,
-        length,
+        balance: stepped.balance,
+        length: stepped.length,
         accepted: more(run.accepted),
         refused: run.refused,
-        told: taken_repair(run.told, repair, length),
+        told: taken_step(run.told, stepped),
     }
 }
 
@@ -42,15 +46,18 @@ fn grown(
     damaged: &mut [u32; 22],
 ) -> Run {
     if before < run.length {
-        return damage(run, buffer, copied, damaged);
+        return report_damaged(run, buffer, copied, damaged);
     }
     run
 }
 
 // The check number with what a refused step told, and with the buffer that it left.
-fn taken_refusal(told: u64, number: u32, place: u32, buffer: &[u8; 32768]) -> u64 {
-    let refusal = taken(taken(told, number as u64), place as u64);
-    taken(refusal, check(buffer))
+fn taken_refusal(told: u64, refusal: Refusal, buffer: &[u8; 32768]) -> u64 {
+    let refused = taken(
+        taken(told, u64::from(refusal.number)),
+        u64::from(refusal.place),
+    );
+    taken(refused, check(buffer))
 }
 
 // Prints a full book, and starts one from the total standing. Returns the length that stands then.
@@ -59,112 +66,94 @@ fn start_anew(
     length: usize,
     buffer: &mut [u8; 32768],
     counts: &mut [u32; 22],
-) -> usize {
-    show_full(buffer, length);
+) -> Result<usize, fmt::Error> {
+    show_full(buffer, length)?;
     let started = start_book(total, buffer);
     match started {
-        BookStarted::Length(next) => next,
-        BookStarted::Refused { number, place: _ } => {
-            show_started(&started);
-            count(number, counts);
-            length
+        Ok(next) => Ok(next),
+        Err(refusal) => {
+            show_started(started)?;
+            count(refusal.number, counts);
+            Ok(length)
         }
     }
 }
 
 // The length that stands after a refused call: a full book is replaced.
-fn next_length(run: Run, number: u32, buffer: &mut [u8; 32768], counts: &mut [u32; 22]) -> usize {
+fn next_length(
+    run: Run,
+    number: u32,
+    buffer: &mut [u8; 32768],
+    counts: &mut [u32; 22],
+) -> Result<usize, fmt::Error> {
     if number == 21 {
         return start_anew(run.balance.total, run.length, buffer, counts);
     }
-    run.length
+    Ok(run.length)
 }
 
 // The run after a refused call: the buffer is as it was before the call's fault.
 fn refused(
     run: Run,
     state: u32,
-    number: u32,
-    place: u32,
+    refusal: Refusal,
     buffer: &mut [u8; 32768],
     copied: &[u8; 32768],
     counts: &mut [u32; 22],
-) -> Run {
-    let told = taken_refusal(run.told, number, place, buffer);
-    copy(copied, buffer);
-    count(number, counts);
-    let length = next_length(run, number, buffer, counts);
-    let balance = run.balance;
-    Run {
+) -> Result<Run, fmt::Error> {
+    let told = taken_refusal(run.told, refusal, buffer);
+    buffer.copy_from_slice(copied);
+    count(refusal.number, counts);
+    let length = next_length(run, refusal.number, buffer, counts)?;
+    Ok(Run {
         state,
-        balance,
         length,
-        accepted: run.accepted,
         refused: more(run.refused),
         told,
-    }
+        ..run
+    })
 }
 
 // The run after a call.
 fn counted(
     run: Run,
     state: u32,
-    answer: Stepped,
+    answer: Result<Stepped, Refusal>,
     buffer: &mut [u8; 32768],
     copied: &mut [u8; 32768],
     counts: &mut [u32; 22],
     damaged: &mut [u32; 22],
-) -> Run {
+) -> Result<Run, fmt::Error> {
     match answer {
-        Stepped::Accepted {
-            repair,
-            balance,
-            length,
-        } => {
-            let next = accepted(run, state, repair, balance, length);
-            grown(next, run.length, buffer, copied, damaged)
+        Ok(stepped) => {
+            let next = accepted(run, state, stepped);
+            Ok(grown(next, run.length, buffer, copied, damaged))
         }
-        Stepped::Refused { number, place } => {
-            refused(run, state, number, place, buffer, copied, counts)
-        }
+        Err(refusal) => refused(run, state, refusal, buffer, copied, counts),
     }
 }
 
-// Steps by the first m parents, with a scratch of its own and the first bytes of the buffer.
+// Steps with a scratch of its own and the first bytes of the buffer.
 fn step_by(
     balance: Balance,
     kept: &mut [u32; 8],
     source: i32,
-    targets: &[i32; 8],
-    lows: &[u32; 8],
-    highs: &[u32; 8],
-    safe_lows: &[u32; 8],
-    safe_highs: &[u32; 8],
-    weights: &[u32; 8],
-    parents: &[u32; 15],
-    m: usize,
+    field: &FieldLists,
     buffer: &mut [u8],
     room: usize,
     told: usize,
-) -> Stepped
-    requires { (m ≤ 15) × (length buffer.old ≡ 32768) × (room ≤ 32768) }
+) -> Result<Stepped, Refusal>
+    requires { (length buffer.old ≡ 32768) × (room ≤ 32768) }
 {
     let mut scratch = [0i64; 60];
-    let all = &parents[..];
     kept::step(
         balance,
         kept,
         source,
         20,
-        targets,
-        lows,
-        highs,
-        safe_lows,
-        safe_highs,
-        weights,
-        &all[0..m],
+        field,
         &mut scratch,
-        &mut buffer[0..room],
+        &mut buffer[..room],
         told,
     )
 }
@@ -177,7 +166,7 @@ pub fn one_call(
     copied: &mut [u8; 32768],
     counts: &mut [u32; 22],
     damaged: &mut [u32; 22],
-) -> Run {
+) -> Result<Run, fmt::Error> {
     let kind = draw(run.state, 3);
     let mut targets = [0i32; 8];
     let mut lows = [0u32; 8];
@@ -197,24 +186,25 @@ pub fn one_call(
     );
     let source = draw(next, 3001);
     let drawn = draw(source.state, 24);
-    let fault = drawn.value;
+    let fault = fault_of(drawn.value);
     let mut parents = [0u32; 15];
     fill_parents(kind.value, false, &mut parents);
-    copy(buffer, copied);
+    copied.copy_from_slice(buffer);
     let state = spoil(drawn.state, fault, run.length, buffer);
-    let balance = run.balance;
+    let field = FieldLists {
+        targets: &targets,
+        lows: &lows,
+        highs: &highs,
+        safe_lows: &safe_lows,
+        safe_highs: &safe_highs,
+        weights: &weights,
+        parents: &parents[..nodes(kind.value)],
+    };
     let answer = step_by(
-        given_balance(balance, fault),
+        given_balance(run.balance, fault),
         kept,
         given_source(source.value, fault),
-        &targets,
-        &lows,
-        &highs,
-        &safe_lows,
-        &safe_highs,
-        &weights,
-        &parents,
-        nodes(kind.value),
+        &field,
         buffer,
         given_room(fault),
         given_length(run.length, fault),

@@ -15,38 +15,28 @@ pub fn taken(told: u64, value: u64) -> u64 {
     (told % 1000000007 * 31 + value % 1000000000000) % 1000000007
 }
 
-fn wide(x: u8) -> u64
-    ensures { result < 256 }
-{
-    x as u64
-}
-
 // The check number with every byte of a text.
 pub fn taken_text(told: u64, text: &[u8]) -> u64 {
     let mut now = told;
-    let mut i: usize = 0;
-    while i < text.len() {
-        now = taken(now, wide(text[i]));
-        i += 1;
+    for byte in text {
+        now = taken(now, u64::from(*byte));
     }
     now
 }
 
 // The check number of bytes, with one more.
-fn with_byte(x: u64, byte: u64) -> u64
-    requires { (x < 1000000007) × (byte < 256) }
+fn with_byte(x: u64, byte: u8) -> u64
+    requires { x < 1000000007 }
     ensures { result < 1000000007 }
 {
-    (x * 31 + byte) % 1000000007
+    (x * 31 + u64::from(byte)) % 1000000007
 }
 
 // The check number of a buffer.
 pub fn check(bytes: &[u8; 32768]) -> u64 {
     let mut x: u64 = 0;
-    let mut i: usize = 0;
-    while i < 32768 {
-        x = with_byte(x, wide(bytes[i]));
-        i += 1;
+    for byte in bytes {
+        x = with_byte(x, *byte);
     }
     x
 }

@@ -8,17 +8,20 @@
 // is in order counts as 0. In every line the sum must be the total, and the report must close with it. `stdout` was written by an
 // implementation of the papers' own words in another language, and not by this program. Numbers stay far below the remainders by which overflow
 // is ruled out.
-// Relies on `kept`, `book` and `book_report`, which it tests, `kept_spec`, `book_spec`, `qlt_spec` and `text` for the answers, `blocks` to
-// damage a book, `test_support`, `numbers`, and the kit's `io`.
+// Relies on `kept`, `book` and `book_report`, which it tests, `kept_spec`, `book_spec`, `qlt_spec` and `text` for what it lends and is told, `blocks` to damage a book,
+// `test_support`, `numbers`, and the kit's `io`.
 #![tactic(auto)]
 
 ghost use Rattle.std.specs.Prelude.{◌≤◌, length};
 
 use book::start_book;
-use book_spec::BookStarted;
 use calls::one_call;
-use damage::damage;
-use kept_spec::{Balance, Opened};
+use damage::report_damaged;
+use kept_spec::Balance;
+use numbers::Refusal;
+use std::fmt;
+use std::fmt::Write;
+use test_support::output::Output;
 
 mod buffer;
 mod calls;
@@ -47,14 +50,12 @@ fn some_calls(
     copied: &mut [u8; 32768],
     counts: &mut [u32; 22],
     damaged: &mut [u32; 22],
-) -> Run {
+) -> Result<Run, fmt::Error> {
     let mut now = run;
-    let mut i: usize = 0;
-    while i < 500 {
-        now = one_call(now, kept, buffer, copied, counts, damaged);
-        i += 1;
+    for _ in 0..500 {
+        now = one_call(now, kept, buffer, copied, counts, damaged)?;
     }
-    now
+    Ok(now)
 }
 
 // Makes 30 times 500 calls, and prints the lines after each 500.
@@ -65,18 +66,17 @@ fn all_calls(
     copied: &mut [u8; 32768],
     counts: &mut [u32; 22],
     damaged: &mut [u32; 22],
-) {
+) -> fmt::Result {
     let mut now = run;
-    let mut i: u64 = 0;
-    while i < 30 {
-        now = some_calls(now, kept, buffer, copied, counts, damaged);
-        i += 1;
-        output::show(i * 500, now, kept, buffer);
+    for i in 1..31 {
+        now = some_calls(now, kept, buffer, copied, counts, damaged)?;
+        output::show(i * 500, now, kept, buffer)?;
     }
+    Ok(())
 }
 
 // Makes all calls with the book that was started, and prints the counts.
-fn run_all(balance: Balance, length: usize, buffer: &mut [u8; 32768]) {
+fn run_all(balance: Balance, length: usize, buffer: &mut [u8; 32768]) -> fmt::Result {
     let mut copied = [0u8; 32768];
     let mut kept = [1000u32; 8];
     let mut counts = [0u32; 22];
@@ -89,7 +89,7 @@ fn run_all(balance: Balance, length: usize, buffer: &mut [u8; 32768]) {
         refused: 0,
         told: 0,
     };
-    let run = damage(first, buffer, &mut copied, &mut damaged);
+    let run = report_damaged(first, buffer, &mut copied, &mut damaged);
     all_calls(
         run,
         &mut kept,
@@ -97,36 +97,44 @@ fn run_all(balance: Balance, length: usize, buffer: &mut [u8; 32768]) {
         &mut copied,
         &mut counts,
         &mut damaged,
-    );
-    output::show_counts(b"refused", &counts);
-    output::show_counts(b"damaged", &damaged);
+    )?;
+    output::show_counts("refused", &counts)?;
+    output::show_counts("damaged", &damaged)
 }
 
 // Opens the field, and makes all calls.
-fn open_all(length: usize, buffer: &mut [u8; 32768]) {
+fn open_all(length: usize, buffer: &mut [u8; 32768]) -> fmt::Result {
     let kept = [1000u32; 8];
     match kept::open(&kept, 20) {
-        Opened::Accepted(balance) => run_all(balance, length, buffer),
-        Opened::Refused { number, place: _ } => output::show_refused(number),
+        Ok(balance) => run_all(balance, length, buffer),
+        Err(refusal) => writeln!(Output, "open refused {}", refusal.number),
     }
 }
 
 // Starts a book in the first bytes of the buffer, and prints what the start gave.
-fn show_start(total: u32, buffer: &mut [u8], room: usize) -> BookStarted
+fn show_start(
+    total: u32,
+    buffer: &mut [u8],
+    room: usize,
+) -> Result<Result<usize, Refusal>, fmt::Error>
     requires { room ≤ length buffer.old }
 {
-    let started = start_book(total, &mut buffer[0..room]);
-    output::show_started(&started);
-    started
+    let started = start_book(total, &mut buffer[..room]);
+    output::show_started(started)?;
+    Ok(started)
 }
 
 // Makes the starts, and the calls from the last one if it is accepted.
-fn main() {
+fn make_starts() -> fmt::Result {
     let mut buffer = [170u8; 32768];
-    show_start(8000, &mut buffer, 32767);
-    show_start(2147483648, &mut buffer, 32768);
-    let started = show_start(8000, &mut buffer, 32768);
-    if let BookStarted::Length(length) = started {
-        open_all(length, &mut buffer);
+    let _ = show_start(8000, &mut buffer, 32767)?;
+    let _ = show_start(2147483648, &mut buffer, 32768)?;
+    if let Ok(length) = show_start(8000, &mut buffer, 32768)? {
+        open_all(length, &mut buffer)?;
     }
+    Ok(())
+}
+
+fn main() {
+    let _ = make_starts();
 }

@@ -1,3 +1,2 @@
 -- Laws for the code.
-pub mod CheckLaws
 pub mod FillLaws

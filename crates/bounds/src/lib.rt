@@ -4,7 +4,7 @@
 
 ghost use Rattle.bounds_spec.specs.Bounds.{mixing, bounds as bounds_lists, bounds_call, BoundsContract};
 
-use bounds_spec::Bounded;
+use numbers::Refusal;
 
 mod verdict;
 mod work;
@@ -19,13 +19,13 @@ pub fn bounds(
     highs: &mut [u32],
     safe_lows: &mut [u32],
     safe_highs: &mut [u32],
-) -> Bounded
+) -> Result<(), Refusal>
     ensures { BoundsContract
         (bounds_call (mixing air.now low_ratios.now high_ratios.now)
         (bounds_lists lows.old highs.old safe_lows.old safe_highs.old)) result
         (bounds_lists lows.new highs.new safe_lows.new safe_highs.new) }
 {
-    let verdict = verdict::verdict(
+    verdict::verdict(
         air,
         low_ratios,
         high_ratios,
@@ -33,9 +33,8 @@ pub fn bounds(
         highs.len(),
         safe_lows.len(),
         safe_highs.len(),
-    );
-    work::bounds_by(
-        verdict,
+    )?;
+    work::convert(
         air,
         low_ratios,
         high_ratios,
@@ -43,5 +42,6 @@ pub fn bounds(
         highs,
         safe_lows,
         safe_highs,
-    )
+    );
+    Ok(())
 }

@@ -5,10 +5,11 @@ ghost use Rattle.bounds_spec.specs.Bounds.{mixing, check_bounds_lengths, ratios_
 
 use bounds_spec::Ratio;
 use cell_bounds::ratios::ratios_ok;
-use numbers::Checked;
-use numbers::checks::{check_count, check_length, fail_at, then};
+use numbers::Refusal;
+use numbers::checks::{check_count, unless};
 
 // 3: a list of another length than the air masses.
+#[tactic(auto, unfolding(bounds_spec::specs::Bounds::check_bounds_lengths))]
 fn check_lengths(
     n: usize,
     low_ratios: usize,
@@ -17,21 +18,18 @@ fn check_lengths(
     highs: usize,
     safe_lows: usize,
     safe_highs: usize,
-) -> Checked
+) -> Result<(), Refusal>
     ensures { result ≡ check_bounds_lengths n low_ratios high_ratios lows highs safe_lows safe_highs }
 {
-    then(
-        check_length(low_ratios, n),
-        then(
-            check_length(high_ratios, n),
-            then(
-                check_length(lows, n),
-                then(
-                    check_length(highs, n),
-                    then(check_length(safe_lows, n), check_length(safe_highs, n)),
-                ),
-            ),
-        ),
+    unless(
+        low_ratios == n
+            && high_ratios == n
+            && lows == n
+            && highs == n
+            && safe_lows == n
+            && safe_highs == n,
+        3,
+        0,
     )
 }
 
@@ -44,18 +42,16 @@ fn ratios_ok_at(low_ratios: &[u32], high_ratios: &[u32], c: usize) -> bool
 }
 
 // 18: the first cell with a ratio above 1048576.
-fn check_ratios(low_ratios: &[u32], high_ratios: &[u32]) -> Checked
+fn check_ratios(low_ratios: &[u32], high_ratios: &[u32]) -> Result<(), Refusal>
     requires { (length low_ratios.now ≤ 512) × (length high_ratios.now ≡ length low_ratios.now) }
     ensures { result ≡ check_ratios (length low_ratios.now) low_ratios.now high_ratios.now }
 {
-    let mut c: usize = 0;
-    while c < low_ratios.len() {
+    for c in 0..low_ratios.len() {
         if !ratios_ok_at(low_ratios, high_ratios, c) {
-            return fail_at(18, c);
+            return Err(Refusal::at(18, c));
         }
-        c += 1;
     }
-    Checked::Pass
+    Ok(())
 }
 
 // 1, 3 and 18. Of the lists lent only the lengths count.
@@ -67,15 +63,12 @@ pub fn verdict(
     highs: usize,
     safe_lows: usize,
     safe_highs: usize,
-) -> Checked
+) -> Result<(), Refusal>
     ensures { result ≡ first (bounds_checks (mixing air.now low_ratios.now high_ratios.now) lows highs safe_lows
         safe_highs) }
 {
-    let count = check_count(air.len());
-    if let Checked::Fail { number, place } = count {
-        return Checked::Fail { number, place };
-    }
-    let lengths = check_lengths(
+    check_count(air.len())?;
+    check_lengths(
         air.len(),
         low_ratios.len(),
         high_ratios.len(),
@@ -83,9 +76,6 @@ pub fn verdict(
         highs,
         safe_lows,
         safe_highs,
-    );
-    if let Checked::Fail { number, place } = lengths {
-        return Checked::Fail { number, place };
-    }
+    )?;
     check_ratios(low_ratios, high_ratios)
 }

@@ -1,28 +1,12 @@
-// What Bounds does by its verdict. The lists are numbers; each function that works on one cell takes them as what they stand for.
+// What Bounds does once its checks have passed. The lists are numbers; each function that works on one cell takes them as what they stand for.
 ghost use Rattle.std.specs.Prelude.{◌≡◌, ◌<◌, length, set};
 ghost use Rattle.numbers.specs.Lists.{at};
 ghost use Rattle.bounds_spec.specs.Ratios.{air_of, ratio_of, least_of, most_of};
 ghost use Rattle.bounds_spec.specs.Bounds.{mixing, bounds, bounds_call, converted, bounds_verdict, BoundsFits, BoundsContract};
 
-use bounds_spec::{AirMass, Bounded, CellBounds, FieldRatios, Ratio};
+use bounds_spec::{AirMass, CellBounds, FieldRatios, Ratio};
 use cell_bounds::masses::bounds_of;
 use cell_bounds::ratios::{larger, smaller};
-use numbers::Checked;
-
-// An element of a list as what it stands for.
-fn air_at(xs: &[u32], c: usize) -> AirMass
-    requires { c < length xs.now }
-    ensures { result ≡ air_of (at xs.now c) }
-{
-    AirMass(xs[c])
-}
-
-fn ratio_at(xs: &[u32], c: usize) -> Ratio
-    requires { c < length xs.now }
-    ensures { result ≡ ratio_of (at xs.now c) }
-{
-    Ratio(xs[c])
-}
 
 // The smallest low ratio and the largest high ratio of the field.
 fn field_ratios(low_ratios: &[u32], high_ratios: &[u32]) -> FieldRatios
@@ -30,13 +14,11 @@ fn field_ratios(low_ratios: &[u32], high_ratios: &[u32]) -> FieldRatios
     ensures { (result.smallest_low.0 ≡ least_of (at low_ratios.now) (length low_ratios.now)) ×
         (result.largest_high.0 ≡ most_of (at high_ratios.now) (length low_ratios.now)) }
 {
-    let mut smallest = ratio_at(low_ratios, 0);
-    let mut largest = ratio_at(high_ratios, 0);
-    let mut c: usize = 0;
-    while c < low_ratios.len() {
-        smallest = smaller(smallest, ratio_at(low_ratios, c));
-        largest = larger(largest, ratio_at(high_ratios, c));
-        c += 1;
+    let mut smallest = Ratio(low_ratios[0]);
+    let mut largest = Ratio(high_ratios[0]);
+    for c in 0..low_ratios.len() {
+        smallest = smaller(smallest, Ratio(low_ratios[c]));
+        largest = larger(largest, Ratio(high_ratios[c]));
     }
     FieldRatios {
         smallest_low: smallest,
@@ -69,7 +51,7 @@ fn put_cell(
 }
 
 // The four lists of a call that has passed its checks.
-fn convert(
+pub fn convert(
     air: &[u32],
     low_ratios: &[u32],
     high_ratios: &[u32],
@@ -85,49 +67,13 @@ fn convert(
         converted (mixing air.now low_ratios.now high_ratios.now) }
 {
     let field = field_ratios(low_ratios, high_ratios);
-    let mut c: usize = 0;
-    while c < air.len() {
+    for c in 0..air.len() {
         let cell = bounds_of(
-            air_at(air, c),
-            ratio_at(low_ratios, c),
-            ratio_at(high_ratios, c),
+            AirMass(air[c]),
+            Ratio(low_ratios[c]),
+            Ratio(high_ratios[c]),
             field,
         );
         put_cell(cell, c, lows, highs, safe_lows, safe_highs);
-        c += 1;
     }
-}
-
-// The answer, and what a call leaves in the four lists.
-pub fn bounds_by(
-    verdict: Checked,
-    air: &[u32],
-    low_ratios: &[u32],
-    high_ratios: &[u32],
-    lows: &mut [u32],
-    highs: &mut [u32],
-    safe_lows: &mut [u32],
-    safe_highs: &mut [u32],
-) -> Bounded
-    requires { verdict ≡ bounds_verdict
-        (bounds_call (mixing air.now low_ratios.now high_ratios.now)
-        (bounds lows.old highs.old safe_lows.old safe_highs.old)) }
-    ensures { BoundsContract
-        (bounds_call (mixing air.now low_ratios.now high_ratios.now)
-        (bounds lows.old highs.old safe_lows.old safe_highs.old)) result
-        (bounds lows.new highs.new safe_lows.new safe_highs.new) }
-{
-    if let Checked::Fail { number, place } = verdict {
-        return Bounded::Refused { number, place };
-    }
-    convert(
-        air,
-        low_ratios,
-        high_ratios,
-        lows,
-        highs,
-        safe_lows,
-        safe_highs,
-    );
-    Bounded::Done
 }

@@ -1,5 +1,6 @@
--- What the verdict of Bounds means, that an answer tells it and nothing else, and what a call leaves, from the contract alone. The bounds that
--- it makes cross only where a low is above its high. Assumes nothing.
+-- What the verdict of Bounds means, and what a call leaves, from the contract alone. The bounds that it makes cross only where a low is above
+-- its high. Assumes nothing.
+use Rattle.std.specs.Prelude.{Ok}
 use mathlib.Core.Path.{◌≡◌, refl, ◌∙◌, ap}
 use mathlib.Core.Logic.{◌↔◌}
 use mathlib.Core.Bool.{true, ◌&&◌}
@@ -8,18 +9,15 @@ use Prim.Native.Nat.{ℕ, ◌≤◌, ◌<◌}
 use native.Mathlib.Omega.{arith}
 use lib.Dec.{eqb}
 use lib.ListN.{length}
-use Rattle.numbers.specs.declared.Checked.TheVariants.{Pass, Fail}
 use Rattle.numbers.specs.Lists.{at}
-use Rattle.numbers.specs.Checks.{after, Decides, DecidesAll, rule, rule_at, Holds, Broken, RefuseWith}
-use Rattle.numbers.proofs.TestLaws.{and-means, le-means, eq-means, injective}
+use Rattle.numbers.specs.Checks.{refused, after, Decides, DecidesAll, rule, rule_at, Holds, Broken, RefuseWith}
+use Rattle.numbers.proofs.TestLaws.{and-means, le-means, eq-means}
 use Rattle.numbers.proofs.CheckLaws.{decides-unless, decides-from, decides-then, decides-none, count-decides, answered-accepted, answered-refused}
 use Rattle.numbers.proofs.ChainLaws.{refuse-with}
 use Rattle.numbers.proofs.ListLaws.{get_d-list_to}
 use Rattle.qlt_spec.specs.Field.{Lists, field, Ordered}
-use Rattle.bounds_spec.specs.declared.Bounded.{Bounded}
-use Rattle.bounds_spec.specs.declared.Bounded.TheVariants.{Done, Refused}
 use Rattle.bounds_spec.specs.Ratios.{parts, air_of, ratio_of}
-use Rattle.bounds_spec.specs.Bounds.{Mixing, cells, Bounds, bounds_of, BoundsCall, field_ratios, bounds_at, converted, check_bounds_lengths, ratios_ok, check_ratios, bounds_verdict, BoundsLengths, RatiosFit, bounds_rules, BoundsFits, bounds_tells, bounds_answer, BoundsContract}
+use Rattle.bounds_spec.specs.Bounds.{Mixing, cells, Bounds, bounds_of, BoundsCall, field_ratios, bounds_at, converted, check_bounds_lengths, ratios_ok, check_ratios, bounds_verdict, BoundsLengths, RatiosFit, bounds_rules, BoundsFits, BoundsContract}
 use Rattle.bounds_spec.proofs.RatioLaws.{low-mono, high-mono, least-is, most-is}
 
 -- ---- the verdict
@@ -30,7 +28,7 @@ lengths-test n p q r s t u =
     and-means (eq-means p n) (and-means (eq-means q n) (and-means (eq-means r n) (and-means (eq-means s n) (and-means (eq-means t n) (eq-means u n)))))
 
 -- past 3 there are as many ratios as air masses
-pub lengths-passed : (n p q r s t u : ℕ) → check_bounds_lengths n p q r s t u ≡ Pass → (p ≡ n) × (q ≡ n)
+pub lengths-passed : (n p q r s t u : ℕ) → check_bounds_lengths n p q r s t u ≡ Ok tt → (p ≡ n) × (q ≡ n)
 unfolding check_bounds_lengths
 lengths-passed n p q r s t u e = let h = (decides-unless _ 3 (lengths-test n p q r s t u)).passes.0 e in (h.0, h.1.0)
 
@@ -74,10 +72,10 @@ module _ (c : BoundsCall) where
     λ f. ((f.some, f.few), (f.lengths, (f.ratios, tt))),
   )
 
-  pub bounds-accepts : (bounds_verdict c ≡ Pass) ↔ BoundsFits c
+  pub bounds-accepts : (bounds_verdict c ≡ Ok tt) ↔ BoundsFits c
   bounds-accepts = (λ e. rules-fit.0 (bounds-decides.passes.0 e), λ f. bounds-decides.passes.1 (rules-fit.1 f))
 
-  pub bounds-refuses : (number place : ℕ) → (bounds_verdict c ≡ Fail number place) ↔ Broken (bounds_rules c) number place
+  pub bounds-refuses : (number place : ℕ) → (bounds_verdict c ≡ refused number place) ↔ Broken (bounds_rules c) number place
   bounds-refuses = bounds-decides.fails
 
   -- it refuses with 02's numbers and no others
@@ -86,30 +84,17 @@ module _ (c : BoundsCall) where
 
   -- ---- from the contract alone
 
-  -- a call answered Done fits, and leaves the conversion
-  pub done-bounds : {left : Bounds} → BoundsContract c Done left → BoundsFits c × (left ≡ converted x)
-  unfolding bounds_tells
+  -- an accepted call fits, and leaves the conversion
+  pub done-bounds : {left : Bounds} → BoundsContract c (Ok tt) left → BoundsFits c × (left ≡ converted x)
   done-bounds p =
       let e = (answered-accepted (bounds_verdict c) tt tt p.answers).0 in
       (bounds-accepts.0 e, p.writes ∙ ap (λ v. after v (converted x) b) e)
 
   -- a refused one breaks that rule, and leaves the lists as they were
-  pub refused-bounds : {number place : ℕ} {left : Bounds} → BoundsContract c (Refused number place) left → Broken (bounds_rules c) number place × (left ≡ b)
-  unfolding bounds_tells
+  pub refused-bounds : {number place : ℕ} {left : Bounds} → BoundsContract c (refused number place) left → Broken (bounds_rules c) number place × (left ≡ b)
   refused-bounds {number} {place} p =
       let e = answered-refused (bounds_verdict c) tt number place p.answers in
       ((bounds-refuses number place).0 e, p.writes ∙ ap (λ v. after v (converted x) b) e)
-
--- ---- the answer
-
--- what an answer tells is the answer
-pub bounds-tells-injective : (a b : Bounded) → bounds_tells a ≡ bounds_tells b → a ≡ b
-unfolding bounds_tells
-bounds-tells-injective = injective bounds_answer back
-  where
-    back : (a : Bounded) → bounds_answer (bounds_tells a) ≡ a
-    back Done = refl
-    back (Refused number place) = refl
 
 -- ---- the ratios of the field, and the order of a cell's bounds
 

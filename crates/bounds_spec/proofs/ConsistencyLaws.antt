@@ -1,26 +1,24 @@
 -- The consistency of document 003: with all ratios equal and each product dividing evenly, the masses of an accepted Reconstruct and those
 -- after an accepted Step are air times ratio, whatever the targets, weights and tree. Assumes nothing.
+use Rattle.std.specs.Prelude.{Ok}
 use mathlib.Core.Path.{◌≡◌, sym, ◌∙◌, ap}
+use Rattle.kept_spec.specs.declared.Stepped.{Stepped}
 use mathlib.Core.List.{List}
 use Prim.Native.Nat.{ℕ, ◌*◌, ◌<◌}
 use native.Mathlib.Omega.{arith}
 use lib.IntN.{ℤ}
 use lib.ListN.{length}
 use Rattle.numbers.specs.Lists.{at}
-use Rattle.numbers.specs.Checks.{accepted}
 use Rattle.numbers.proofs.ListLaws.{length-list_to}
 use Rattle.qlt_spec.specs.declared.Repair.{Repair}
-use Rattle.qlt_spec.specs.declared.Reconstructed.TheVariants as repairs
 use Rattle.qlt_spec.specs.Field as fields
 use Rattle.qlt_spec.specs.Field.{Lists, field}
-use Rattle.qlt_spec.specs.Operation.{ReconstructCall, ShapeFits, ReconstructContract, reconstruct_tells}
+use Rattle.qlt_spec.specs.Operation.{ReconstructCall, ShapeFits, ReconstructContract}
 use Rattle.qlt_spec.specs.Facts.{FieldFacts}
 use Rattle.qlt_spec.proofs.OperationLaws.{reconstruct-accepts, told-passed, done-facts}
-use Rattle.kept_spec.specs.Step.{StepResult}
 use Rattle.kept_spec.specs.Account.{Event, told, Promised}
 use Rattle.kept_spec.proofs.StepLaws.{accepted-fits, accepted-facts}
 use Rattle.bounds_spec.specs.declared.Ratio.{Ratio}
-use Rattle.bounds_spec.specs.declared.Bounded.TheVariants.{Done}
 use Rattle.bounds_spec.specs.Ratios.{parts, air_of, ratio_of, low_mass, high_mass}
 use Rattle.bounds_spec.specs.Bounds.{Mixing, cells, Bounds, bounds_of, BoundsCall, field_ratios, bounds_at, converted, BoundsContract}
 use Rattle.bounds_spec.specs.Consistency.{Uniform, Consistent}
@@ -60,11 +58,10 @@ module _ {x : Mixing} {r : Ratio} (u : Uniform x r) where
           omega (arith, h.0, h.1)
 
 -- of an accepted Reconstruct and an accepted Step of a field whose bounds are those that an accepted conversion left
-module _ {b : BoundsCall} {left : Bounds} (p : BoundsContract b Done left) {r : Ratio} (u : Uniform b.given r) where
-  pub reconstruct-consistent : {c : ReconstructCall} (a : Repair) {masses : List ℕ} {scratch : List ℤ} → bounds_of c.lists ≡ left → ReconstructContract c (repairs.Done a) masses scratch → Consistent b.given r masses
-  unfolding reconstruct_tells
+module _ {b : BoundsCall} {left : Bounds} (p : BoundsContract b (Ok tt) left) {r : Ratio} (u : Uniform b.given r) where
+  pub reconstruct-consistent : {c : ReconstructCall} (a : Repair) {masses : List ℕ} {scratch : List ℤ} → bounds_of c.lists ≡ left → ReconstructContract c (Ok a) masses scratch → Consistent b.given r masses
   reconstruct-consistent {c} a same q =
       consistent u (same ∙ (done-bounds b p).1) ((reconstruct-accepts c).0 (told-passed q)).shape (done-facts a q)
 
-  pub step-consistent : (e : Event) (a : StepResult) → bounds_of e.call.lists ≡ left → Promised e → told e ≡ accepted a → Consistent b.given r e.kept
+  pub step-consistent : (e : Event) (a : Stepped) → bounds_of e.call.lists ≡ left → Promised e → told e ≡ Ok a → Consistent b.given r e.kept
   step-consistent e a same q t = consistent u (same ∙ (done-bounds b p).1) (accepted-fits e q a t).masses.shape (accepted-facts e q a t).facts

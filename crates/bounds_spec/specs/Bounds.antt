@@ -1,14 +1,11 @@
 -- The operation Bounds: what it is given, its verdict, its answer, and the lists it leaves. Assumes nothing.
 use Rattle.std.specs.Prelude.{◌≡◌, Bool, ◌&&◌, List, [], ◌∷◌, ℕ, ◌≤◌, ◌<◌, leb, eqb, length}
-use Rattle.numbers.specs.declared.Checked.{Checked}
 use Rattle.numbers.specs.Lists.{at, list_to}
-use Rattle.numbers.specs.Checks.{Answered, accepted, refused, answered, after, unless, first, first_from, check_count, Rule, rule, rule_at}
+use Rattle.numbers.specs.Checks.{Checked, answered, after, unless, first, first_from, check_count, Rule, rule, rule_at}
 use Rattle.qlt_spec.specs.Field.{Lists}
 use Rattle.bounds_spec.specs.declared.Ratio.{Ratio}
 use Rattle.bounds_spec.specs.declared.FieldRatios.{FieldRatios}
 use Rattle.bounds_spec.specs.declared.CellBounds.{CellBounds}
-use Rattle.bounds_spec.specs.declared.Bounded.{Bounded}
-use Rattle.bounds_spec.specs.declared.Bounded.TheVariants.{Done, Refused}
 use Rattle.bounds_spec.specs.Ratios.{parts, air_of, ratio_of, cell_bounds, least_of, most_of}
 
 -- air masses and mixing ratios
@@ -117,16 +114,7 @@ pub record BoundsFits (c : BoundsCall) : Type 0 where
 
 -- ---- the answer, and the lists at exit
 
--- what an answer tells, and the answer that tells it
-unfoldable pub bounds_tells : Bounded → Answered Unit
-bounds_tells Done = accepted tt
-bounds_tells (Refused number place) = refused number place
-
-abbrev pub bounds_answer : Answered Unit → Bounded
-bounds_answer (accepted u) = Done
-bounds_answer (refused number place) = Refused number place
-
 -- the whole contract of the operation
-pub record BoundsContract (c : BoundsCall) (answer : Bounded) (left : Bounds) : Type 0 where
-  pub answers : bounds_tells answer ≡ answered (bounds_verdict c) tt
+pub record BoundsContract (c : BoundsCall) (answer : Checked) (left : Bounds) : Type 0 where
+  pub answers : answer ≡ answered (bounds_verdict c) tt
   pub writes : left ≡ after (bounds_verdict c) (converted c.given) c.lent

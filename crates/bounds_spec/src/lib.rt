@@ -29,10 +29,3 @@ pub struct CellBounds {
     pub safe_low: TracerMass,
     pub safe_high: TracerMass,
 }
-
-// The answer of the conversion: the four lists of bounds are written, or the call is refused with 02's number and place.
-#[derive(Clone, Copy)]
-pub enum Bounded {
-    Done,
-    Refused { number: u32, place: u32 },
-}

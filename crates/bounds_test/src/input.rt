@@ -1,11 +1,9 @@
 // What stands before the lists of a case.
-ghost use Rattle.std.specs.Prelude.{◌≤◌, length};
+ghost use Rattle.std.specs.Prelude.{◌≤◌};
 
-use numbers::arith::{above, index, smaller};
-use test_support::input::read_signed;
-use test_support::runs::target;
+use test_support::reader::{Reader, target};
 
-// The lengths of the lists, the source of the step, and the position behind them.
+// The lengths of the lists, and the source of the step.
 #[derive(Clone, Copy)]
 pub struct Case {
     pub air: usize,
@@ -16,39 +14,28 @@ pub struct Case {
     pub safe_lows: usize,
     pub safe_highs: usize,
     pub source: i32,
-    pub next: usize,
 }
 
-// A list's length, from the number in the text.
-fn count(x: i64) -> usize
+// The length of a list that stands next.
+fn count(reader: &mut Reader) -> usize
     ensures { result ≤ 600 }
 {
-    index(smaller(above(x), 600))
+    usize::try_from(reader.signed()).unwrap_or(0).min(600)
 }
 
-// The eight numbers from `at` on. A source has the range of a target.
-pub fn read_case(text: &[u8], at: usize) -> Case
-    requires { at ≤ length text.now }
+// The eight numbers that stand next. A source has the range of a target.
+pub fn read_case(reader: &mut Reader) -> Case
     ensures { (result.air ≤ 600) × (result.low_ratios ≤ 600) × (result.high_ratios ≤ 600) × (result.lows ≤ 600) × (result.highs ≤ 600) × (result.safe_lows ≤ 600) ×
-        (result.safe_highs ≤ 600) × (result.next ≤ length text.now) }
+        (result.safe_highs ≤ 600) }
 {
-    let air = read_signed(text, at);
-    let low_ratios = read_signed(text, air.next);
-    let high_ratios = read_signed(text, low_ratios.next);
-    let lows = read_signed(text, high_ratios.next);
-    let highs = read_signed(text, lows.next);
-    let safe_lows = read_signed(text, highs.next);
-    let safe_highs = read_signed(text, safe_lows.next);
-    let source = read_signed(text, safe_highs.next);
     Case {
-        air: count(air.value),
-        low_ratios: count(low_ratios.value),
-        high_ratios: count(high_ratios.value),
-        lows: count(lows.value),
-        highs: count(highs.value),
-        safe_lows: count(safe_lows.value),
-        safe_highs: count(safe_highs.value),
-        source: target(source.value),
-        next: source.next,
+        air: count(reader),
+        low_ratios: count(reader),
+        high_ratios: count(reader),
+        lows: count(reader),
+        highs: count(reader),
+        safe_lows: count(reader),
+        safe_highs: count(reader),
+        source: target(reader.signed()),
     }
 }

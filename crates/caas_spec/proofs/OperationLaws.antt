@@ -1,5 +1,6 @@
--- What Split's verdict means, that an answer tells its verdict and d and nothing else, and what the masses and d of an accepted call are.
+-- What Split's verdict means, and what the masses and d of an accepted call are.
 -- Assumes nothing.
+use Rattle.std.specs.Prelude.{Ok}
 use mathlib.Core.Path.{◌≡◌, refl, sym, ◌∙◌, ap, ap₂, subst}
 use mathlib.Core.Logic.{◌↔◌}
 use mathlib.Core.Bool.{true, ◌&&◌}
@@ -12,22 +13,19 @@ use lib.Signed.{◌≤ℤ◌}
 use lib.ListN.{length}
 use mir.Syntax.{w64}
 use mir.Val.{to_z, of_z}
-use Rattle.numbers.specs.declared.Checked.TheVariants.{Pass, Fail}
 use Rattle.numbers.specs.Sums.{ℕ_adds, ℤ_adds, sum_to}
 use Rattle.numbers.specs.Lists.{at_ℤ}
 use Rattle.numbers.specs.Signed.{over, under, min_ℤ, max_ℤ}
-use Rattle.numbers.specs.Checks.{accepted, answered, after, first, check_count, Decides, rule, rule_at, Holds, Broken, max_total, DecidesAll, RefuseWith}
-use Rattle.numbers.proofs.TestLaws.{and-means, eq-means, injective}
+use Rattle.numbers.specs.Checks.{refused, answered, after, first, check_count, Decides, rule, rule_at, Holds, Broken, max_total, DecidesAll, RefuseWith}
+use Rattle.numbers.proofs.TestLaws.{and-means, eq-means}
 use Rattle.numbers.proofs.SumLaws.{sum_to-ext, sum_to-none, sum_to-over, sum_to-pos}
 use Rattle.numbers.proofs.ListLaws.{length-list_to, get_d-list_to}
 use Rattle.numbers.proofs.SignedLaws.{about, read_back, le_parts, from_zero, over-whole, from-zero-whole, le_z-means, max-under}
 use Rattle.numbers.proofs.CheckLaws.{answered-accepted, answered-refused, after-pass, after-fail, both_first, both-second, decides-unless, decides-from, decides-none, decides-then, every-means, count-decides}
 use Rattle.numbers.proofs.ChainLaws.{refuse-with}
-use Rattle.caas_spec.specs.declared.SplitAnswer.{SplitAnswer}
-use Rattle.caas_spec.specs.declared.SplitAnswer.TheVariants.{Done, Refused}
 use Rattle.caas_spec.specs.Group.{Group, Splits, Divides, distance, sum_in}
 use Rattle.caas_spec.specs.Split.{clip, clipped, deficit, result, Proportional}
-use Rattle.caas_spec.specs.Operation.{SplitCall, items, sum_ℤ, check_lengths, check_split_order, check_highs, check_weights, check_split_reach, split_shape_checks, split_verdict, SplitLengths, split_rules, SplitFits, item_group, split_masses, split_deficit, split_tells, split_answer, SplitContract, Divided, distance_of, clipped_at, SplitFacts}
+use Rattle.caas_spec.specs.Operation.{SplitCall, items, sum_ℤ, check_lengths, check_split_order, check_highs, check_weights, check_split_reach, split_shape_checks, split_verdict, SplitLengths, split_rules, SplitFits, item_group, split_masses, split_deficit, SplitContract, Divided, distance_of, clipped_at, SplitFacts}
 use Rattle.caas_spec.proofs.SplitLaws.{deficit-most, moved-adds, result-divides, result-nearest, result-proportional}
 
 -- ---- each check, and the verdict
@@ -36,11 +34,11 @@ lengths-test : (n l h w m : ℕ) → (eqb l n && (eqb h n && (eqb w n && eqb m n
 lengths-test n l h w m = and-means (eq-means l n) (and-means (eq-means h n) (and-means (eq-means w n) (eq-means m n)))
 
 -- what 1 and 3 leave to the checks after them
-pub shape-passed : (n l h w m : ℕ) → first (split_shape_checks n l h w m) ≡ Pass → (n ≤ 512) × ((l ≡ n) × ((h ≡ n) × ((w ≡ n) × (m ≡ n))))
+pub shape-passed : (n l h w m : ℕ) → first (split_shape_checks n l h w m) ≡ Ok tt → (n ≤ 512) × ((l ≡ n) × ((h ≡ n) × ((w ≡ n) × (m ≡ n))))
 unfolding check_lengths
 shape-passed n l h w m e = (
   ((count-decides n).passes.0 (both_first (check_count n) _ e)).1,
-  (decides-unless _ 3 (lengths-test n l h w m)).passes.0 (both_first _ Pass (both-second (check_count n) _ e)),
+  (decides-unless _ 3 (lengths-test n l h w m)).passes.0 (both_first _ (Ok tt) (both-second (check_count n) _ e)),
 )
 
 pub split-order-decides : (n : ℕ) (lows highs : List ℤ) → Decides (check_split_order n lows highs) (rule_at 5 n (λ u. (pos 0 ≤ℤ at_ℤ lows u) × (at_ℤ lows u ≤ℤ at_ℤ highs u)))
@@ -90,7 +88,7 @@ module _ (c : SplitCall) where
   unfolding split_rules
   split-numbers = refuse-with (split_rules c) (1 ∷ 3 ∷ 5 ∷ 6 ∷ 7 ∷ 8 ∷ []) refl refl
 
-  pub split-refuses : (number place : ℕ) → (split_verdict c ≡ Fail number place) ↔ Broken (split_rules c) number place
+  pub split-refuses : (number place : ℕ) → (split_verdict c ≡ refused number place) ↔ Broken (split_rules c) number place
   split-refuses = split-decides.fails
 
   fits-holds : Holds (split_rules c) ↔ SplitFits c
@@ -112,19 +110,8 @@ module _ (c : SplitCall) where
     λ f. ((f.some, f.few), (f.lengths, ((λ u l. (f.nonneg u l, f.order u l)), (f.highs, ((f.weights, f.weighs), ((f.least, f.most), tt)))))),
   )
 
-  pub split-accepts : (split_verdict c ≡ Pass) ↔ SplitFits c
+  pub split-accepts : (split_verdict c ≡ Ok tt) ↔ SplitFits c
   split-accepts = (λ e. fits-holds.0 (split-decides.passes.0 e), λ f. split-decides.passes.1 (fits-holds.1 f))
-
--- ---- the answer
-
--- what an answer tells is the answer
-answer-told : (a : SplitAnswer) → split_answer (split_tells a) ≡ a
-unfolding split_tells
-answer-told (Done d) = refl
-answer-told (Refused number place) = refl
-
-pub split-tells-injective : (a b : SplitAnswer) → split_tells a ≡ split_tells b → a ≡ b
-split-tells-injective = injective split_answer answer-told
 
 -- ---- an accepted call
 
@@ -241,10 +228,10 @@ module _ (c : SplitCall) (fits : SplitFits c) where
 
 -- ---- from the contract alone
 
--- a call answered Done fits, and its masses and d have every fact
-module _ (c : SplitCall) (d : ℤ) (masses : List ℤ) (p : SplitContract c (Done d) masses) where
-  done-told : (split_verdict c ≡ Pass) × (d ≡ split_deficit c)
-  done-told = unfold split_tells in answered-accepted (split_verdict c) d (split_deficit c) p.answers
+-- a call answered Ok fits, and its masses and d have every fact
+module _ (c : SplitCall) (d : ℤ) (masses : List ℤ) (p : SplitContract c (Ok d) masses) where
+  done-told : (split_verdict c ≡ Ok tt) × (d ≡ split_deficit c)
+  done-told = answered-accepted (split_verdict c) d (split_deficit c) p.answers
 
   pub done-fits : SplitFits c
   done-fits = (split-accepts c).0 done-told.0
@@ -255,17 +242,14 @@ module _ (c : SplitCall) (d : ℤ) (masses : List ℤ) (p : SplitContract c (Don
       subst (λ z. SplitFacts c z masses) (sym done-told.1) (subst (SplitFacts c (split_deficit c)) (sym e) (fits-facts c done-fits))
 
 -- a refused call left the masses as they were, and broke the rule of its number
-pub split-refused-keeps : (c : SplitCall) (number place : ℕ) (masses : List ℤ) → SplitContract c (Refused number place) masses → (masses ≡ c.masses) × Broken (split_rules c) number place
-unfolding split_tells
+pub split-refused-keeps : (c : SplitCall) (number place : ℕ) (masses : List ℤ) → SplitContract c (refused number place) masses → (masses ≡ c.masses) × Broken (split_rules c) number place
 split-refused-keeps c number place masses p =
     let e = answered-refused (split_verdict c) (split_deficit c) number place p.answers in
     (p.writes ∙ ap (λ v. after v (split_masses c) c.masses) e, (split-refuses c number place).0 e)
 
 -- and the contract by the verdict: of a call that is refused, and of one that is accepted
-pub contract-refused : (c : SplitCall) {number place : ℕ} → split_verdict c ≡ Fail number place → SplitContract c (Refused number place) c.masses
-unfolding split_tells
+pub contract-refused : (c : SplitCall) {number place : ℕ} → split_verdict c ≡ refused number place → SplitContract c (refused number place) c.masses
 contract-refused c e = record { answers = ap (λ v. answered v (split_deficit c)) (sym e); writes = after-fail _ c.masses e }
 
-pub contract-done : (c : SplitCall) {d : ℤ} {masses : List ℤ} → split_verdict c ≡ Pass → d ≡ split_deficit c → masses ≡ split_masses c → SplitContract c (Done d) masses
-unfolding split_tells
-contract-done c e t w = record { answers = ap accepted t ∙ ap (λ v. answered v (split_deficit c)) (sym e); writes = after-pass c.masses e w }
+pub contract-done : (c : SplitCall) {d : ℤ} {masses : List ℤ} → split_verdict c ≡ Ok tt → d ≡ split_deficit c → masses ≡ split_masses c → SplitContract c (Ok d) masses
+contract-done c e t w = record { answers = ap Ok t ∙ ap (λ v. answered v (split_deficit c)) (sym e); writes = after-pass c.masses e w }

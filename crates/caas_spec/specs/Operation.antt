@@ -1,13 +1,10 @@
 -- The operation Split: what it is given, its checks in 01's order, its answer and the masses it leaves. Assumes nothing.
 use Rattle.std.specs.Prelude.{◌≡◌, Bool, true, ◌&&◌, List, [], ◌∷◌, ◌++◌, ℕ, ◌≤◌, ◌<◌, eqb, ℤ, pos, nat_abs, ◌-ℤ◌, ◌≤ℤ◌, length}
 use Rattle.std.specs.Int.Signed.{le_z}
-use Rattle.numbers.specs.declared.Checked.{Checked}
 use Rattle.numbers.specs.Sums.{ℕ_adds, ℤ_adds, sum_to}
 use Rattle.numbers.specs.Lists.{at_ℤ, list_to}
 use Rattle.numbers.specs.Signed.{over, min_ℤ, max_ℤ}
-use Rattle.numbers.specs.Checks.{Answered, accepted, refused, answered, after, unless, first, first_from, every_from, check_count, Rule, rule, rule_at, max_total}
-use Rattle.caas_spec.specs.declared.SplitAnswer.{SplitAnswer}
-use Rattle.caas_spec.specs.declared.SplitAnswer.TheVariants.{Done, Refused}
+use Rattle.numbers.specs.Checks.{Checked, Answered, answered, after, unless, first, first_from, every_from, check_count, Rule, rule, rule_at, max_total}
 use Rattle.caas_spec.specs.Group.{Group}
 use Rattle.caas_spec.specs.Split.{Proportional, deficit, result}
 
@@ -129,18 +126,9 @@ split_masses c = list_to (items c) (λ u. pos (result (item_group c) (over c.tot
 unfoldable pub split_deficit : SplitCall → ℤ
 split_deficit c = deficit (item_group c) (over c.total)
 
--- what an answer tells, and the answer that tells it
-unfoldable pub split_tells : SplitAnswer → Answered ℤ
-split_tells (Done d) = accepted d
-split_tells (Refused number place) = refused number place
-
-abbrev pub split_answer : Answered ℤ → SplitAnswer
-split_answer (accepted d) = Done d
-split_answer (refused number place) = Refused number place
-
 -- the whole contract of the operation
-pub record SplitContract (c : SplitCall) (answer : SplitAnswer) (masses : List ℤ) : Type 0 where
-  pub answers : split_tells answer ≡ answered (split_verdict c) (split_deficit c)
+pub record SplitContract (c : SplitCall) (answer : Answered ℤ) (masses : List ℤ) : Type 0 where
+  pub answers : answer ≡ answered (split_verdict c) (split_deficit c)
   pub writes : masses ≡ after (split_verdict c) (split_masses c) c.masses
 
 -- ---- what the masses and d of an accepted call are, in plain facts

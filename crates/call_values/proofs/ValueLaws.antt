@@ -1,5 +1,6 @@
 -- What a verdict makes of a return value and of a lent list, and that a return value and the values in a list tell what the operation told.
 -- Assumes nothing.
+use Rattle.std.specs.Prelude.{Ok, Err}
 use mathlib.Core.Path.{◌≡◌, refl, sym, ◌∙◌, ap, ap₂}
 use mathlib.Core.Logic.{⊎_elim}
 use mathlib.Core.Bool.{Bool, true, ◌&&◌}
@@ -8,10 +9,9 @@ use Prim.Native.Nat.{ℕ, zero, suc, ◌+◌, ◌*◌, ◌/◌, ◌%◌, ◌^◌
 use native.Mathlib.Omega.{arith}
 use lib.Dec.{ltb}
 use borrow.Author.Tests.{le-leb, lt-leb}
-use Rattle.numbers.specs.declared.Checked.{Checked}
-use Rattle.numbers.specs.declared.Checked.TheVariants.{Pass, Fail}
+use Rattle.numbers.specs.declared.Refusal.{Refusal}
 use Rattle.numbers.specs.Lists.{written}
-use Rattle.numbers.specs.Checks.{accepted, refused, answered, after, both, first, check_long, Rule, DecidesAll, OneOf, RefuseWith, numbers_of}
+use Rattle.numbers.specs.Checks.{Checked, refused, answered, after, both, first, check_long, Rule, DecidesAll, OneOf, RefuseWith, numbers_of}
 use Rattle.numbers.proofs.TestLaws.{lt-means, and-means, and_first, and_second}
 use Rattle.numbers.proofs.CheckLaws.{both-pass, first-append}
 use Rattle.numbers.proofs.ChainLaws.{fails-number}
@@ -20,35 +20,31 @@ use Rattle.kept_spec.specs.declared.Balance.{Balance}
 use Rattle.kept_spec.specs.Step.{StepCall, step_result}
 use Rattle.call_values.specs.Values.{returned, told_by, balance_words, result_words, balance_in, result_in}
 
--- ---- what a verdict makes of the return value and of a lent list
-
-module _ {v : Checked} where
-  pub returned-pass : {r : ℕ} → v ≡ Pass → r ≡ 0 → r ≡ returned v
-  returned-pass e z = z ∙ ap returned (sym e)
-
-  pub returned-fail : {r number place : ℕ} → v ≡ Fail number place → r ≡ number + place * 2 ^ 32 → r ≡ returned v
-  returned-fail e z = z ∙ ap returned (sym e)
+-- ---- what verdicts that are one make of a lent list
 
 pub after-by : {X : Type 0} {v w : Checked} (new old : X) → v ≡ w → after v new old ≡ after w new old
 after-by new old e = ap (λ x. after x new old) e
 
 -- ---- a lent list with room, and one without
 
-pub long-passes : (k n : ℕ) → n ≤ k → check_long k n ≡ Pass
+pub long-passes : (k n : ℕ) → n ≤ k → check_long k n ≡ Ok tt
 unfolding check_long
 long-passes k n h = rw (le-leb n k h)
 
-pub long-fails : (k n : ℕ) → k < n → check_long k n ≡ Fail 3 0
+pub long-fails : (k n : ℕ) → k < n → check_long k n ≡ refused 3 0
 unfolding check_long
 long-fails k n h = rw (lt-leb n k h)
 
 -- the room first, and then the operation's own verdict
 module _ (k n : ℕ) (v : Checked) where
   pub room : n ≤ k → first (check_long k n ∷ v ∷ []) ≡ v
-  room h = ap (λ w. both w (both v Pass)) (long-passes k n h) ∙ both-pass v
+  room h = ap (λ w. both w (both v (Ok tt))) (long-passes k n h) ∙ both-pass v
 
-  pub no_room : k < n → first (check_long k n ∷ v ∷ []) ≡ Fail 3 0
-  no_room h = ap (λ w. both w (both v Pass)) (long-fails k n h)
+  pub room-refused : {refusal : Refusal} → check_long k n ≡ Err refusal → first (check_long k n ∷ v ∷ []) ≡ Err refusal
+  room-refused e = ap (λ w. both w (both v (Ok tt))) e
+
+  pub no_room : k < n → first (check_long k n ∷ v ∷ []) ≡ refused 3 0
+  no_room h = room-refused (long-fails k n h)
 
 -- checks of a call's own, and then the operation's verdict
 pub first-last : (vs : List Checked) (w : Checked) → first (vs ++ (w ∷ [])) ≡ both (first vs) w
@@ -61,27 +57,27 @@ abbrev pub InWord : ℕ → Type 0
 InWord number = (0 < number) × (number < 2 ^ 32)
 
 abbrev pub Numbered : Checked → Type 0
-Numbered v = (number place : ℕ) → v ≡ Fail number place → InWord number
+Numbered v = (number place : ℕ) → v ≡ refused number place → InWord number
 
 told-refused : {X : Type 0} (r : ℕ) (x : X) → 0 < r → told_by r x ≡ refused (r % 2 ^ 32) (r / 2 ^ 32)
 told-refused zero x h = absurd (omega arith)
 told-refused (suc r) x h = refl
 
 pub told-returned : {X : Type 0} (v : Checked) (x : X) → Numbered v → told_by (returned v) x ≡ answered v x
-told-returned Pass x h = refl
-told-returned (Fail number place) x h =
-    let b = h number place refl in
-    let low : (number + place * 2 ^ 32) % 2 ^ 32 ≡ number = omega (arith, b) in
-    let high : (number + place * 2 ^ 32) / 2 ^ 32 ≡ place = omega (arith, b) in
-    told-refused (number + place * 2 ^ 32) x (omega (arith, b)) ∙ ap₂ refused low high
+told-returned (Ok tt) x h = refl
+told-returned (Err r) x h =
+    let b = h r.number r.place refl in
+    let low : (r.number + r.place * 2 ^ 32) % 2 ^ 32 ≡ r.number = omega (arith, b) in
+    let high : (r.number + r.place * 2 ^ 32) / 2 ^ 32 ≡ r.place = omega (arith, b) in
+    told-refused (r.number + r.place * 2 ^ 32) x (omega (arith, b)) ∙ ap₂ refused low high
 
 -- and, where the call is accepted, the values that the lent list holds
-pub told-own : {X : Type 0} (v : Checked) (r : ℕ) (x y : X) → Numbered v → r ≡ returned v → (v ≡ Pass → x ≡ y) → told_by r x ≡ answered v y
+pub told-own : {X : Type 0} (v : Checked) (r : ℕ) (x y : X) → Numbered v → r ≡ returned v → (v ≡ Ok tt → x ≡ y) → told_by r x ≡ answered v y
 told-own v r x y h e f = ap (λ n. told_by n x) e ∙ told-returned v x h ∙ same v f
   where
-    same : (w : Checked) → (w ≡ Pass → x ≡ y) → answered w x ≡ answered w y
-    same Pass g = ap accepted (g refl)
-    same (Fail number place) g = refl
+    same : (w : Checked) → (w ≡ Ok tt → x ≡ y) → answered w x ≡ answered w y
+    same (Ok tt) g = ap Ok (g refl)
+    same (Err r) g = refl
 
 -- ---- the numbers of an operation, each of which fits
 

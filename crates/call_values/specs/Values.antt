@@ -1,21 +1,20 @@
 -- The value that a call from C returns, the values that an opening and a step put into lent lists, and what is read off these. Assumes nothing.
-use Rattle.std.specs.Prelude.{List, [], ◌∷◌, ℕ, zero, suc, ◌+◌, ◌*◌, ◌/◌, ◌%◌, ◌^◌}
-use Rattle.numbers.specs.declared.Checked.{Checked}
-use Rattle.numbers.specs.declared.Checked.TheVariants.{Pass, Fail}
+use Rattle.std.specs.Prelude.{Ok, Err, List, [], ◌∷◌, ℕ, zero, suc, ◌+◌, ◌*◌, ◌/◌, ◌%◌, ◌^◌}
+use Rattle.kept_spec.specs.declared.Stepped.{Stepped}
 use Rattle.numbers.specs.Lists.{at}
-use Rattle.numbers.specs.Checks.{Answered, accepted, refused}
+use Rattle.numbers.specs.Checks.{Checked, Answered, refused}
 use Rattle.qlt_spec.specs.declared.Repair.{Repair}
 use Rattle.kept_spec.specs.declared.Balance.{Balance}
-use Rattle.kept_spec.specs.Step.{StepCall, StepResult}
+use Rattle.kept_spec.specs.Step.{StepCall}
 
 -- 0, or the refusal's number in the low 32 bits and its place in the high 32
 abbrev pub returned : Checked → ℕ
-returned Pass = 0
-returned (Fail number place) = number + place * 2 ^ 32
+returned (Ok tt) = 0
+returned (Err r) = r.number + r.place * 2 ^ 32
 
 -- what a return value tells, with the values that the lent list holds
 abbrev pub told_by : {X : Type 0} → ℕ → X → Answered X
-told_by zero values = accepted values
+told_by zero values = Ok values
 told_by (suc r) values = refused (suc r % 2 ^ 32) (suc r / 2 ^ 32)
 
 -- ---- the values in the lent lists
@@ -43,5 +42,5 @@ abbrev pub repair_in : List ℕ → Repair
 repair_in answer = record { outcome = at answer 0; total = at answer 1; change = at answer 2; shared = at answer 3 }
 
 -- of a call of Step: the new balance is the total in the list, at the scale of the balance that the call was given
-abbrev pub result_in : StepCall → List ℕ → StepResult
+abbrev pub result_in : StepCall → List ℕ → Stepped
 result_in c answer = record { repair = repair_in answer; balance = record { total = at answer 1; scale = c.balance.scale }; length = at answer 4 }

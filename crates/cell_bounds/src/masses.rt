@@ -9,7 +9,7 @@ fn rounded(air: AirMass, ratio: Ratio, more: u64) -> TracerMass
     requires { (ratio.0 ≤ parts) × (more < parts) }
     ensures { result.0 ≡ (air.0 * ratio.0 + more) / parts }
 {
-    let product = (air.0 as u64) * (ratio.0 as u64);
+    let product = u64::from(air.0) * u64::from(ratio.0);
     TracerMass(((product + more) / 1048576) as u32)
 }
 

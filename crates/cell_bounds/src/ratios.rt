@@ -5,6 +5,7 @@ ghost use Rattle.bounds_spec.specs.Bounds.{ratios_ok};
 use bounds_spec::Ratio;
 
 // Neither ratio is above 1048576.
+#[tactic(auto, unfolding(bounds_spec::specs::Bounds::ratios_ok))]
 pub fn ratios_ok(low: Ratio, high: Ratio) -> bool
     ensures { result ≡ ratios_ok low high }
 {
@@ -15,11 +16,11 @@ pub fn ratios_ok(low: Ratio, high: Ratio) -> bool
 pub fn smaller(a: Ratio, b: Ratio) -> Ratio
     ensures { result.0 ≡ min a.0 b.0 }
 {
-    if a.0 < b.0 { a } else { b }
+    Ratio(a.0.min(b.0))
 }
 
 pub fn larger(a: Ratio, b: Ratio) -> Ratio
     ensures { result.0 ≡ max a.0 b.0 }
 {
-    if a.0 < b.0 { b } else { a }
+    Ratio(a.0.max(b.0))
 }

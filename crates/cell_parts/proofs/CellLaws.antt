@@ -14,14 +14,16 @@ use Rattle.numbers.specs.Sums.{ℤ_adds}
 use Rattle.numbers.specs.Lists.{at, at_ℤ}
 use Rattle.numbers.proofs.SignedLaws.{signed, about, one-part, minus-parts}
 use Rattle.caas_spec.specs.Group.{Group}
-use Rattle.qlt_spec.specs.Field.{Lists, Field, nodes, field, Outcome, outcome}
+use Rattle.qlt_spec.specs.Field.{Lists, Field, nodes, field, outcome}
+use Rattle.qlt_spec.specs.declared.Outcome.{Outcome}
 use Rattle.qlt_spec.specs.Masses.{children_between, group_of}
 use Rattle.qlt_spec.specs.Operation.{ReconstructCall, ReconstructFits}
 use Rattle.qlt_spec.proofs.TreeLaws.{child-parent, node_sum-cell}
 use Rattle.qlt_spec.proofs.BetweenLaws.{between-up}
 use Rattle.solve_spec.specs.Solve.{node_group, mass_of, Solvable, NodeWatched}
 use Rattle.solve_spec.proofs.SolveLaws.{mass-can}
-use Rattle.reconstruct.specs.Rebuild.{low_list, high_list}
+use Rattle.solve.specs.declared.whole_tree.InForce.{InForce}
+use Rattle.reconstruct.specs.Rebuild.{low_list, high_list, ForcedBy}
 use Rattle.reconstruct.proofs.RebuildLaws.{lows-are, highs-are, mass-same}
 use Rattle.query_spec.specs.declared.Parts.{Parts}
 use Rattle.query_spec.specs.Parts.{split_parts, alone_parts, cell_parts, parts_by}
@@ -53,9 +55,9 @@ module _ {parents : List ℕ} {targets : List ℤ} {lows highs weights : List �
       (sym (node_sum-cell ok.valid ℤ_adds (at_ℤ targets) u l))
       ∙ parts-read (group v) (mass v) can u (omega arith) (child-parent ok.valid u i)
 
--- ---- of a call that fits, by its outcome o
+-- ---- of a call that fits, by its outcome o, and what is solved of it
 
-module _ (c : ReconstructCall) (ok : ReconstructFits c) (o : Outcome) (e : outcome (field c.lists) c.total ≡ o) where
+module _ (c : ReconstructCall) (ok : ReconstructFits c) (o : Outcome) (e : outcome (field c.lists) c.total ≡ o) {r : InForce} (q : ForcedBy o c.lists c.total r) where
   abbrev f : Lists
   f = c.lists
 
@@ -68,10 +70,12 @@ module _ (c : ReconstructCall) (ok : ReconstructFits c) (o : Outcome) (e : outco
 
   pub in-force :
       (u : ℕ) → 1 < nodes f
-      → split_parts (node_group f.parents f.targets (low_list o f) (high_list o f) f.weights (F.up u)) (mass_of f.parents f.targets (low_list o f) (high_list o f) f.weights c.total (F.up u)) u
+      → split_parts (node_group r.parents.now r.targets.now r.lows.now r.highs.now r.weights.now (at r.parents.now u)) (mass_of r.parents.now r.targets.now r.lows.now r.highs.now r.weights.now r.mass (at r.parents.now u)) u
       ≡ cell_parts F c.total u
   unfolding cell_parts
-  in-force u h = ap₂ (λ G M. split_parts G M u) (group-same (F.up u)) (mass-same c ok o e (F.up u)) ∙ rw (ne_eqb (nodes f) 1 (omega arith))
+  in-force u h =
+      rw (q.parents, q.targets, q.lows, q.highs, q.weights, q.mass)
+      (ap₂ (λ G M. split_parts G M u) (group-same (F.up u)) (mass-same c ok o e (F.up u)) ∙ rw (ne_eqb (nodes f) 1 (omega arith)))
 
 -- in a field of one node
 pub alone-told : (F : Field) (M u : ℕ) → F.m ≡ 1 → (z : ℤ) → z ≡ pos M -ℤ F.target u → ◌≡◌ {A = Parts} (record { clipping = pos 0; first = pos 0; second = z }) (cell_parts F M u)

@@ -1,5 +1,5 @@
 // A double's product with 2^k by the cases of IEEE 754.
-ghost use Rattle.std.specs.Prelude.{◌≡◌, ◌*◌, ◌^◌, ◌≤◌, ◌<◌};
+ghost use Rattle.std.specs.Prelude.{Some, ◌≡◌, ◌*◌, ◌^◌, ◌≤◌, ◌<◌};
 ghost use Rattle.doubles_spec.specs.Classes.{InClass};
 ghost use Rattle.doubles_spec.specs.Forms.{fraction, product};
 ghost use Rattle.doubles_spec.specs.declared.Class.TheVariants.{Normal};
@@ -40,27 +40,27 @@ pub fn class_of(x: f64) -> Class
     Class::NotANumber
 }
 
-// x × 2^k, by the class of x.
-pub fn scaled(x: f64, k: u32) -> Product
+// x × 2^k, by the class of x; none if x is not finite.
+pub fn scaled(x: f64, k: u32) -> Option<Product>
     requires { k ≤ 30 }
     ensures { result ≡ product k x }
 {
     match class_of(x) {
         // minus zero too
-        Class::Zero => Product::Finite {
+        Class::Zero => Some(Product {
             negative: false,
             whole: 0,
             rest: Rest::Nothing,
-        },
+        }),
         // not 0, and far less than a half: it is below 2^−1022, and k is at most 30
-        Class::Subnormal => Product::Finite {
+        Class::Subnormal => Some(Product {
             negative: x < 0.0,
             whole: 0,
             rest: Rest::LessThanHalf,
-        },
-        Class::Normal => normal(x, k),
-        Class::Infinity => Product::NotFinite,
-        Class::NotANumber => Product::NotFinite,
+        }),
+        Class::Normal => Some(normal(x, k)),
+        Class::Infinity => None,
+        Class::NotANumber => None,
     }
 }
 
@@ -68,23 +68,23 @@ pub fn scaled(x: f64, k: u32) -> Product
 pub fn normal(x: f64, k: u32) -> Product
     requires scale_bound { k ≤ 30 }
     requires is_normal { InClass Normal x }
-    ensures { result ≡ product k x }
+    ensures { Some result ≡ product k x }
 {
     let bits = f64::to_bits(x);
     let exponent = bits % SIGN / EXPONENT;
     let digits = bits % EXPONENT + EXPONENT;
-    digits_at(x < 0.0, digits, exponent + (k as u64))
+    digits_at(x < 0.0, digits, exponent + u64::from(k))
 }
 
 // ±digits × 2^place ÷ 2^1075, for digits of 53 bits.
 pub fn digits_at(negative: bool, digits: u64, place: u64) -> Product
     requires at_least { 2 ^ 52 ≤ digits }
     requires below { digits < 2 ^ 53 }
-    ensures { result ≡ fraction negative (digits * 2 ^ place) (2 ^ 1075) }
+    ensures { Some result ≡ fraction negative (digits * 2 ^ place) (2 ^ 1075) }
 {
     // 2^52 or more, which is out of every range
     if place >= 1075 {
-        return Product::Finite {
+        return Product {
             negative,
             whole: 0x10_0000_0000_0000,
             rest: Rest::Nothing,
@@ -93,7 +93,7 @@ pub fn digits_at(negative: bool, digits: u64, place: u64) -> Product
     let s = 1075 - place;
     // not 0, and less than a half
     if s >= 55 {
-        return Product::Finite {
+        return Product {
             negative,
             whole: 0,
             rest: Rest::LessThanHalf,
@@ -101,7 +101,7 @@ pub fn digits_at(negative: bool, digits: u64, place: u64) -> Product
     }
     let unit = 1u64 << s;
     let rest = rest_by(digits % unit, unit);
-    Product::Finite {
+    Product {
         negative,
         whole: digits / unit,
         rest,

@@ -4,102 +4,83 @@ ghost use Rattle.numbers.specs.Roundings.{signed};
 ghost use Rattle.doubles_spec.specs.Forms.{in_target, in_bound, target_field, low_field, high_field};
 
 use crate::cases::scaled;
-use doubles_spec::{BoundField, Product, TargetField};
+use doubles_spec::FieldFault;
 use rounded_division::rounding::{added_away, added_nearest};
 
 // A bound's units, if they are in range.
-pub fn in_bound(q: u64) -> BoundField
+pub fn in_bound(q: u64) -> Result<u32, FieldFault>
     ensures { result ≡ in_bound (pos q) }
 {
     if q < 0x8000_0000 {
-        BoundField::Units(q as u32)
+        Ok(q as u32)
     } else {
-        BoundField::Bad(11)
+        Err(FieldFault::OutOfRange)
     }
 }
 
 // A target's units, if they are in range.
-pub fn in_target(negative: bool, q: u64) -> TargetField
+pub fn in_target(negative: bool, q: u64) -> Result<i32, FieldFault>
     ensures { result ≡ in_target (signed negative q) }
 {
     if negative {
         if q == 0 {
-            TargetField::Units(0)
+            Ok(0)
         } else if q <= 0x8000_0000 {
-            TargetField::Units(-1 - ((q - 1) as i32))
+            Ok(-1 - ((q - 1) as i32))
         } else {
-            TargetField::Bad(11)
+            Err(FieldFault::OutOfRange)
         }
     } else if q < 0x8000_0000 {
-        TargetField::Units(q as i32)
+        Ok(q as i32)
     } else {
-        TargetField::Bad(11)
+        Err(FieldFault::OutOfRange)
     }
 }
 
 // Rounded to nearest, ties to even.
-pub fn target_field(x: f64, k: u32) -> TargetField
+#[tactic(auto, using(doubles_spec::proofs::FieldLaws::target_product, doubles_spec::proofs::FieldLaws::nearest_le))]
+pub fn target_field(x: f64, k: u32) -> Result<i32, FieldFault>
     requires { k ≤ 30 }
     ensures { result ≡ target_field k x }
 {
-    match scaled(x, k) {
-        Product::Finite {
-            negative,
-            whole,
-            rest,
-        } => {
-            if whole >= 0x1_0000_0000 {
-                return TargetField::Bad(11);
-            }
-            in_target(negative, whole + added_nearest(whole, rest))
-        }
-        Product::NotFinite => TargetField::Bad(10),
+    let target = scaled(x, k).ok_or(FieldFault::NotFinite)?;
+    if target.whole >= 0x1_0000_0000 {
+        return Err(FieldFault::OutOfRange);
     }
+    in_target(
+        target.negative,
+        target.whole + added_nearest(target.whole, target.rest),
+    )
 }
 
 // Rounded up.
-pub fn low_field(x: f64, k: u32) -> BoundField
+pub fn low_field(x: f64, k: u32) -> Result<u32, FieldFault>
     requires { k ≤ 30 }
     ensures { result ≡ low_field k x }
 {
-    match scaled(x, k) {
-        Product::Finite {
-            negative,
-            whole,
-            rest,
-        } => {
-            if negative {
-                if whole == 0 {
-                    return BoundField::Units(0);
-                }
-                return BoundField::Bad(11);
-            }
-            if whole >= 0x8000_0000 {
-                return BoundField::Bad(11);
-            }
-            in_bound(whole + added_away(rest))
+    let low = scaled(x, k).ok_or(FieldFault::NotFinite)?;
+    if low.negative {
+        if low.whole == 0 {
+            return Ok(0);
         }
-        Product::NotFinite => BoundField::Bad(10),
+        return Err(FieldFault::OutOfRange);
     }
+    if low.whole >= 0x8000_0000 {
+        return Err(FieldFault::OutOfRange);
+    }
+    in_bound(low.whole + added_away(low.rest))
 }
 
 // Rounded down.
-pub fn high_field(x: f64, k: u32) -> BoundField
+#[tactic(auto, using(doubles_spec::proofs::FieldLaws::high_product))]
+pub fn high_field(x: f64, k: u32) -> Result<u32, FieldFault>
     requires { k ≤ 30 }
     ensures { result ≡ high_field k x }
 {
-    match scaled(x, k) {
-        Product::Finite {
-            negative,
-            whole,
-            rest,
-        } => {
-            if negative {
-                BoundField::Bad(11)
-            } else {
-                in_bound(whole)
-            }
-        }
-        Product::NotFinite => BoundField::Bad(10),
+    let high = scaled(x, k).ok_or(FieldFault::NotFinite)?;
+    if high.negative {
+        Err(FieldFault::OutOfRange)
+    } else {
+        in_bound(high.whole)
     }
 }

@@ -7,5 +7,5 @@ pub fn power(k: u32) -> f64
     requires { k ≤ 30 }
     ensures { HasValue result false 1 (2 ^ k) }
 {
-    f64::from_bits((1023 - (k as u64)) << 52)
+    f64::from_bits((1023 - u64::from(k)) << 52)
 }

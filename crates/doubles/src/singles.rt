@@ -22,7 +22,7 @@ pub fn significand(mass: u32, highest: u32) -> u32
     requires is_highest { HighestBit mass highest }
     ensures { result ≡ significand mass highest }
 {
-    closest((mass as u64) << 23, 1u64 << highest) as u32
+    closest(u64::from(mass) << 23, 1u64 << highest) as u32
 }
 
 // The binary32 nearest to mass × 2^−k, ties to even. Its pattern is the biased exponent, 127 + highest − k, and the significand without its

@@ -1,4 +1,5 @@
 -- What `product` gives at a double of each class, which are the cases of the code. Assumes nothing.
+use Rattle.std.specs.Prelude.{None}
 use mathlib.Core.Path.{◌≡◌, refl, sym, ap, ◌∙◌, subst}
 use mathlib.Core.Bool.{Bool, true, false, not}
 use Prim.Native.Nat.{ℕ, zero, suc, ◌+◌, ◌*◌, ◌^◌, ◌≤◌, ◌<◌}
@@ -11,16 +12,15 @@ use lib.Ieee.{Float, nan, inf, fin, binary64, up, down, of_fields, of_bits, to_b
 use lib.Ieee.Fits.{up_pos, down_pos}
 use lib.Ieee.Exact.{HasValue}
 use Rattle.doubles_spec.specs.Classes.{SizeIn, InClass, is_below_zero, exponent_field, fraction_field}
-use Rattle.doubles_spec.specs.Forms.{fraction, product}
+use Rattle.doubles_spec.specs.Forms.{fraction, product, product_of}
 use Rattle.doubles_spec.specs.declared.Class.TheVariants.{Zero, Subnormal, Normal, Infinity, NotANumber}
 use Rattle.doubles_spec.specs.declared.Rest.TheVariants.{Nothing, LessThanHalf}
-use Rattle.doubles_spec.specs.declared.Product.TheVariants.{Finite, NotFinite}
 use Rattle.doubles_spec.proofs.Fractions.{fraction-same, zero-fraction, small-fraction}
 use Rattle.doubles_spec.proofs.Patterns.{mid-value, by-fields, zero-sign}
 use Rattle.doubles_spec.proofs.ClassLaws.{none, class-finite, double-class}
 
 -- ---- zero
-pub zero-product : (k : ℕ) (x : Float) → InClass Zero x → product k x ≡ Finite false 0 Nothing
+pub zero-product : (k : ℕ) (x : Float) → InClass Zero x → product k x ≡ product_of false 0 Nothing
 zero-product k nan h = absurd (class-finite Zero nan (omega arith) h)
 zero-product k (inf s) h = absurd (class-finite Zero (inf s) (omega arith) h)
 zero-product k (fin s m e) h =
@@ -39,7 +39,7 @@ subnormal-size k a b K h = (mul-pos h.0 (pow_pos k), lt_of_le_of_lt twice h.1)
     twice : a * 2 ^ k * 2 ≤ a * 2 ^ 1022
     twice = le_trans (le_of_eq (mul_assoc a (2 ^ k) 2 ∙ ap (λ (z : ℕ). a * z) (sym (pow-suc 2 k)))) (mul-le-mul_left a (pow_mono (room K)))
 
-pub subnormal-product : (k : ℕ) (x : Float) → k ≤ 30 → InClass Subnormal x → product k x ≡ Finite (is_below_zero x) 0 LessThanHalf
+pub subnormal-product : (k : ℕ) (x : Float) → k ≤ 30 → InClass Subnormal x → product k x ≡ product_of (is_below_zero x) 0 LessThanHalf
 subnormal-product k nan K h = absurd (class-finite Subnormal nan (omega arith) h)
 subnormal-product k (inf s) K h = absurd (class-finite Subnormal (inf s) (omega arith) h)
 subnormal-product k (fin s m e) K h = let z = subnormal-size k (m * up e) (down e) K h in small-fraction (is_below_zero (fin s m e)) (m * up e * 2 ^ k) (down e) z.0 z.1
@@ -84,12 +84,12 @@ normal-no-nan (inf s) h = tt
 normal-no-nan (fin s m e) h = tt
 
 -- ---- infinity, not a number
-pub infinity-product : (k : ℕ) (x : Float) → InClass Infinity x → product k x ≡ NotFinite
+pub infinity-product : (k : ℕ) (x : Float) → InClass Infinity x → product k x ≡ None
 infinity-product k nan h = refl
 infinity-product k (inf s) h = refl
 infinity-product k (fin s m e) h = absurd h
 
-pub nan-product : (k : ℕ) (x : Float) → InClass NotANumber x → product k x ≡ NotFinite
+pub nan-product : (k : ℕ) (x : Float) → InClass NotANumber x → product k x ≡ None
 nan-product k nan h = refl
 nan-product k (inf s) h = refl
 nan-product k (fin s m e) h = absurd h

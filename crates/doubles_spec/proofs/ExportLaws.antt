@@ -1,5 +1,6 @@
--- What Export's verdict means, that an answer tells its verdict and its double and nothing else, that the double is exact and no other
--- double is, and that an answer of the right verdict and double keeps the contract. Assumes nothing.
+-- What Export's verdict means, that the double is exact and no other double is, and that an answer of the right verdict and double keeps the
+-- contract. Assumes nothing.
+use Rattle.std.specs.Prelude.{Ok}
 use mathlib.Core.Path.{◌≡◌, refl, sym, ◌∙◌, subst}
 use mathlib.Core.Logic.{◌↔◌}
 use mathlib.Core.Bool.{false}
@@ -9,14 +10,11 @@ use native.Mathlib.Omega.{arith}
 use lib.IntN.{pos}
 use lib.Dec.{T}
 use lib.Ieee.{Float, fin, binary64, fits}
-use Rattle.numbers.specs.declared.Checked.TheVariants.{Pass, Fail}
-use Rattle.numbers.specs.Checks.{answered, Decides, rule, Holds, Broken, max_total, DecidesAll, RefuseWith}
-use Rattle.numbers.proofs.TestLaws.{le-means, injective}
+use Rattle.numbers.specs.Checks.{Answered, refused, answered, Decides, rule, Holds, Broken, max_total, DecidesAll, RefuseWith}
+use Rattle.numbers.proofs.TestLaws.{le-means}
 use Rattle.numbers.proofs.CheckLaws.{answered-accepted, decides-unless, decides-then, decides-none, scale-decides}
 use Rattle.numbers.proofs.ChainLaws.{refuse-with}
-use Rattle.doubles_spec.specs.Export.{check_mass, export_verdict, export_rules, ExportFits, export_double, export_tells, export_answer, Exact, ExportContract}
-use Rattle.doubles_spec.specs.declared.Exported.{Exported}
-use Rattle.doubles_spec.specs.declared.Exported.TheVariants.{Double, Refused}
+use Rattle.doubles_spec.specs.Export.{check_mass, export_verdict, export_rules, ExportFits, export_double, Exact, ExportContract}
 use Rattle.doubles_spec.proofs.ValueLaws.{value-exact, exact-unique, value-zero}
 
 -- ---- the verdict
@@ -35,27 +33,16 @@ module _ (mass k : ℕ) where
   unfolding export_rules Holds
   rules-fit = (λ h. record { scale = h.0; small = h.1.0 }, λ f. (f.scale, (f.small, tt)))
 
-  pub export-accepts : (export_verdict mass k ≡ Pass) ↔ ExportFits mass k
+  pub export-accepts : (export_verdict mass k ≡ Ok tt) ↔ ExportFits mass k
   export-accepts = (λ e. rules-fit.0 (export-decides.passes.0 e), λ f. export-decides.passes.1 (rules-fit.1 f))
 
-  pub export-refuses : (number place : ℕ) → (export_verdict mass k ≡ Fail number place) ↔ Broken (export_rules mass k) number place
+  pub export-refuses : (number place : ℕ) → (export_verdict mass k ≡ refused number place) ↔ Broken (export_rules mass k) number place
   export-refuses = export-decides.fails
 
   -- the numbers that it refuses with
   pub export-numbers : RefuseWith (export_rules mass k) (9 ∷ 11 ∷ [])
   unfolding export_rules
   export-numbers = refuse-with (export_rules mass k) (9 ∷ 11 ∷ []) refl refl
-
--- ---- the answer
-
--- what an answer tells is the answer
-told_back : (a : Exported) → export_answer (export_tells a) ≡ a
-unfolding export_tells
-told_back (Double x) = refl
-told_back (Refused number place) = refl
-
-pub export-tells-injective : (a b : Exported) → export_tells a ≡ export_tells b → a ≡ b
-export-tells-injective = injective export_answer told_back
 
 -- ---- the double
 
@@ -77,7 +64,7 @@ export-zero = value-zero binary64
 -- ---- the contract
 
 -- an answer of the right verdict and double keeps it
-pub export-meets : (mass k : ℕ) (a : Exported) → export_tells a ≡ answered (export_verdict mass k) (export_double mass k) → ExportContract mass k a
+pub export-meets : (mass k : ℕ) (a : Answered Float) → a ≡ answered (export_verdict mass k) (export_double mass k) → ExportContract mass k a
 export-meets mass k a e =
     record {
       answers = e;

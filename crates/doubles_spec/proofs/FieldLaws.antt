@@ -1,4 +1,5 @@
 -- The three roundings, each from what `product` gives: the sign, the whole part cut at 2 ^ 52, and what is left. Assumes nothing.
+use Rattle.std.specs.Prelude.{Option, Some, None, Ok, Err}
 use mathlib.Core.Path.{◌≡◌, refl, sym, ap, ◌∙◌, subst}
 use mathlib.Core.Bool.{Bool, true, false, cond}
 use Prim.Native.Nat.{ℕ, zero, suc, ◌+◌, ◌-◌, ◌*◌, ◌/◌, ◌%◌, ◌^◌, ◌≤◌, ◌<◌, min, compare, Ordering}
@@ -16,30 +17,26 @@ use lib.Ieee.Fits.{up_pos, down_pos}
 use lib.Ieee.Nearest.{closest}
 use borrow.Author.Tests.{ltb-true, ltb-false, leb-true, lt-ltb, le-ltb, ne_eqb}
 use Rattle.numbers.specs.Roundings.{ceiling, signed, round_up, round_down, round_nearest}
-use Rattle.doubles_spec.specs.Forms.{rest_at, rest_of, added_away, added_nearest, fraction, product, field_by, low_field, high_field, target_field, in_bound, in_target}
+use Rattle.doubles_spec.specs.Forms.{Field, rest_at, rest_of, added_away, added_nearest, fraction, product, field_by, low_field, high_field, target_field, in_bound, in_target}
 use Rattle.doubles_spec.specs.declared.Rest.{Rest}
 use Rattle.doubles_spec.specs.declared.Rest.TheVariants.{Nothing, LessThanHalf, Half, MoreThanHalf}
 use Rattle.doubles_spec.specs.declared.Product.{Product}
-use Rattle.doubles_spec.specs.declared.Product.TheVariants.{Finite, NotFinite}
-use Rattle.doubles_spec.specs.declared.BoundField.{BoundField}
-use Rattle.doubles_spec.specs.declared.TargetField.{TargetField}
+use Rattle.doubles_spec.specs.declared.FieldFault.TheVariants.{NotFinite, OutOfRange}
 use Rattle.numbers.proofs.TestLaws.{Tested, holds, fails, tested, compare-is}
 use Rattle.doubles_spec.proofs.Patterns.{zero-sign, other_sign}
 
 -- ---- the roundings of a product
-abbrev pub low_from : Product → BoundField
-low_from (Finite true w r) = cond (eqb w 0) (BoundField.Units 0) (BoundField.Bad 11)
-low_from (Finite false w r) = cond (leb (2 ^ 31) w) (BoundField.Bad 11) (in_bound (pos (w + added_away r)))
-low_from NotFinite = BoundField.Bad 10
+abbrev pub low_from : Option Product → Field ℕ
+low_from (Some p) = cond p.negative (cond (eqb p.whole 0) (Ok 0) (Err OutOfRange)) (cond (leb (2 ^ 31) p.whole) (Err OutOfRange) (in_bound (pos (p.whole + added_away p.rest))))
+low_from None = Err NotFinite
 
-abbrev pub high_from : Product → BoundField
-high_from (Finite true w r) = BoundField.Bad 11
-high_from (Finite false w r) = in_bound (pos w)
-high_from NotFinite = BoundField.Bad 10
+abbrev pub high_from : Option Product → Field ℕ
+high_from (Some p) = cond p.negative (Err OutOfRange) (in_bound (pos p.whole))
+high_from None = Err NotFinite
 
-abbrev pub target_from : Product → TargetField
-target_from (Finite s w r) = cond (leb (2 ^ 32) w) (TargetField.Bad 11) (in_target (signed s (w + added_nearest w r)))
-target_from NotFinite = TargetField.Bad 10
+abbrev pub target_from : Option Product → Field ℤ
+target_from (Some p) = cond (leb (2 ^ 32) p.whole) (Err OutOfRange) (in_target (signed p.negative (p.whole + added_nearest p.whole p.rest)))
+target_from None = Err NotFinite
 
 -- what a rounding adds is at most 1
 pub away-le : (r : Rest) → added_away r ≤ 1
@@ -48,12 +45,12 @@ away-le LessThanHalf = omega arith
 away-le Half = omega arith
 away-le MoreThanHalf = omega arith
 
-pub nearest-le : (w : ℕ) (r : Rest) → added_nearest w r ≤ 1
+pub nearest_le : (w : ℕ) (r : Rest) → added_nearest w r ≤ 1
 unfolding added_nearest
-nearest-le w Nothing = omega arith
-nearest-le w LessThanHalf = omega arith
-nearest-le w Half = omega arith
-nearest-le w MoreThanHalf = omega arith
+nearest_le w Nothing = omega arith
+nearest_le w LessThanHalf = omega arith
+nearest_le w Half = omega arith
+nearest_le w MoreThanHalf = omega arith
 
 -- ---- the ranges: below 2 ^ 31, or not
 module _ {F : Type 0} (n : ℕ) (units bad : F) where
@@ -64,10 +61,10 @@ module _ {F : Type 0} (n : ℕ) (units bad : F) where
   out_of_range h = ap (λ (b : Bool). cond b units bad) (le-ltb n (2 ^ 31) h)
 
 -- a target of a size above 2 ^ 31 is out of range, whatever its sign
-far-out : (s : Bool) (n : ℕ) → 2 ^ 31 < n → in_target (signed s n) ≡ TargetField.Bad 11
-far-out false n h = out_of_range n (TargetField.Units (pos n)) (TargetField.Bad 11) (omega arith)
+far-out : (s : Bool) (n : ℕ) → 2 ^ 31 < n → in_target (signed s n) ≡ Err OutOfRange
+far-out false n h = out_of_range n (Ok (pos n)) (Err OutOfRange) (omega arith)
 far-out true zero h = absurd (omega arith)
-far-out true (suc n) h = out_of_range n (TargetField.Units (negsuc n)) (TargetField.Bad 11) (omega arith)
+far-out true (suc n) h = out_of_range n (Ok (negsuc n)) (Err OutOfRange) (omega arith)
 
 -- ---- what is bad from a limit on: the whole part may be cut above the limit, and tested against it first
 module _ {F : Type 0} (f : ℕ → F) (bad : F) (limit : ℕ) (past : (q : ℕ) → limit ≤ q → f q ≡ bad) where
@@ -120,10 +117,10 @@ pub zero-whole : (rounding : Bool → ℕ → ℕ → ℤ) → KeepsWhole roundi
 zero-whole rounding whole s b B = ap (λ (a : ℕ). rounding s a b) (sym (zero-mul b)) ∙ whole s 0 b B ∙ no_sign s
 
 -- ---- a field by its product, if its rounding is what `from` says of a fraction that is not minus zero
-module _ {F : Type 0} (in_range : ℤ → F) (rounding : Bool → ℕ → ℕ → ℤ) (from : Product → F) (whole : KeepsWhole rounding) (rounds : (s : Bool) (a b : ℕ) → (T s → 0 < a) → 0 < b → in_range (rounding s a b) ≡ from (fraction s a b)) where
-  by_product : (k : ℕ) (x : Float) → field_by (from NotFinite) in_range rounding k x ≡ from (product k x)
-  by_product k nan = refl
-  by_product k (inf s) = refl
+module _ {F : Type 0} (in_range : ℤ → Field F) (rounding : Bool → ℕ → ℕ → ℤ) (from : Option Product → Field F) (none-refused : from None ≡ Err NotFinite) (whole : KeepsWhole rounding) (rounds : (s : Bool) (a b : ℕ) → (T s → 0 < a) → 0 < b → in_range (rounding s a b) ≡ from (fraction s a b)) where
+  by_product : (k : ℕ) (x : Float) → field_by in_range rounding k x ≡ from (product k x)
+  by_product k nan = sym none-refused
+  by_product k (inf s) = sym none-refused
   by_product k (fin s zero e) =
       let b = down e in
       let none : 0 * up e * 2 ^ k ≡ 0 = ap (λ (n : ℕ). n * 2 ^ k) (zero-mul (up e)) ∙ zero-mul (2 ^ k) in
@@ -134,13 +131,13 @@ module _ {F : Type 0} (in_range : ℤ → F) (rounding : Bool → ℕ → ℕ �
       ∙ ap (λ (t : Bool). from (fraction t a (down e))) (sym (other_sign s (suc m) e (zero-lt-suc m)))
 
 -- ---- the bounds
-past_bound : (q : ℕ) → 2 ^ 31 ≤ q → in_bound (pos q) ≡ BoundField.Bad 11
-past_bound q h = out_of_range q (BoundField.Units q) (BoundField.Bad 11) h
+past_bound : (q : ℕ) → 2 ^ 31 ≤ q → in_bound (pos q) ≡ Err OutOfRange
+past_bound q h = out_of_range q (Ok q) (Err OutOfRange) h
 
 -- below 0 a bound is out of range
-minus-bound : (q : ℕ) → in_bound (signed true q) ≡ cond (eqb (min q (2 ^ 52)) 0) (BoundField.Units 0) (BoundField.Bad 11)
+minus-bound : (q : ℕ) → in_bound (signed true q) ≡ cond (eqb (min q (2 ^ 52)) 0) (Ok 0) (Err OutOfRange)
 minus-bound zero = refl
-minus-bound (suc n) = sym (ap (λ (b : Bool). cond b (BoundField.Units 0) (BoundField.Bad 11)) (ne_eqb (min (suc n) (2 ^ 52)) 0 (λ e. omega arith)))
+minus-bound (suc n) = sym (ap (λ (b : Bool). cond b (Ok 0) (Err OutOfRange)) (ne_eqb (min (suc n) (2 ^ 52)) 0 (λ e. omega arith)))
 
 -- what rounding away from zero adds to the whole part, by the remainder and by what is left
 added : (a b : ℕ) → cond (eqb (a % b) 0) 0 1 ≡ added_away (rest_of a b)
@@ -157,14 +154,14 @@ low-fraction : (s : Bool) (a b : ℕ) → (T s → 0 < a) → 0 < b → in_bound
 low-fraction true a b A B = minus-bound (a / b)
 low-fraction false a b A B =
     let d = added_away (rest_of a b) in
-    let f : ℕ → BoundField = λ q. in_bound (pos (q + d)) in
-    let past : (q : ℕ) → 2 ^ 31 ≤ q → f q ≡ BoundField.Bad 11 = λ q l. past_bound (q + d) (omega arith) in
+    let f : ℕ → Field ℕ = λ q. in_bound (pos (q + d)) in
+    let past : (q : ℕ) → 2 ^ 31 ≤ q → f q ≡ Err OutOfRange = λ q l. past_bound (q + d) (omega arith) in
     ap (λ (z : ℕ). in_bound (pos (a / b + z))) (added a b)
-    ∙ cut f (BoundField.Bad 11) (2 ^ 31) past (omega arith) (a / b)
-    ∙ tested-first f (BoundField.Bad 11) (2 ^ 31) past (min (a / b) (2 ^ 52))
+    ∙ cut f (Err OutOfRange) (2 ^ 31) past (omega arith) (a / b)
+    ∙ tested-first f (Err OutOfRange) (2 ^ 31) past (min (a / b) (2 ^ 52))
 
 pub low_product : (k : ℕ) (x : Float) → low_field k x ≡ low_from (product k x)
-low_product = by_product in_bound round_up low_from up-whole low-fraction
+low_product = by_product in_bound round_up low_from refl up-whole low-fraction
 
 -- high: down
 ceiling-pos : (a b : ℕ) → 0 < a → 0 < b → 0 < ceiling a b
@@ -178,13 +175,13 @@ ceiling-pos a b A B = go (a / b) (eqb (a % b) 0) (λ t. eqb→eq (a % b) 0 t) (d
 high-fraction : (s : Bool) (a b : ℕ) → (T s → 0 < a) → 0 < b → in_bound (round_down s a b) ≡ high_from (fraction s a b)
 high-fraction true a b A B = below (ceiling a b) (ceiling-pos a b (A tt) B)
   where
-    below : (n : ℕ) → 0 < n → in_bound (signed true n) ≡ BoundField.Bad 11
+    below : (n : ℕ) → 0 < n → in_bound (signed true n) ≡ Err OutOfRange
     below zero h = absurd (omega arith)
     below (suc n) h = refl
-high-fraction false a b A B = cut (λ q. in_bound (pos q)) (BoundField.Bad 11) (2 ^ 31) past_bound (omega arith) (a / b)
+high-fraction false a b A B = cut (λ q. in_bound (pos q)) (Err OutOfRange) (2 ^ 31) past_bound (omega arith) (a / b)
 
 pub high_product : (k : ℕ) (x : Float) → high_field k x ≡ high_from (product k x)
-high_product = by_product in_bound round_down high_from down-whole high-fraction
+high_product = by_product in_bound round_down high_from refl down-whole high-fraction
 
 -- ---- the target: to nearest
 
@@ -204,14 +201,14 @@ closest-is a b B = near-is (a / b) (eqb (a % b) 0) (compare (a % b * 2) b) none
 
 target-fraction : (s : Bool) (a b : ℕ) → (T s → 0 < a) → 0 < b → in_target (round_nearest s a b) ≡ target_from (fraction s a b)
 target-fraction s a b A B =
-    let f : ℕ → TargetField = λ q. in_target (signed s (q + added_nearest q (rest_of a b))) in
-    let past : (q : ℕ) → 2 ^ 32 ≤ q → f q ≡ TargetField.Bad 11 = λ q l. far-out s (q + added_nearest q (rest_of a b)) (omega arith) in
+    let f : ℕ → Field ℤ = λ q. in_target (signed s (q + added_nearest q (rest_of a b))) in
+    let past : (q : ℕ) → 2 ^ 32 ≤ q → f q ≡ Err OutOfRange = λ q l. far-out s (q + added_nearest q (rest_of a b)) (omega arith) in
     ap (λ (q : ℕ). in_target (signed s q)) (closest-is a b B)
-    ∙ cut f (TargetField.Bad 11) (2 ^ 32) past (omega arith) (a / b)
-    ∙ tested-first f (TargetField.Bad 11) (2 ^ 32) past (min (a / b) (2 ^ 52))
+    ∙ cut f (Err OutOfRange) (2 ^ 32) past (omega arith) (a / b)
+    ∙ tested-first f (Err OutOfRange) (2 ^ 32) past (min (a / b) (2 ^ 52))
 
-pub target-product : (k : ℕ) (x : Float) → target_field k x ≡ target_from (product k x)
-target-product = by_product in_target round_nearest target_from nearest-whole target-fraction
+pub target_product : (k : ℕ) (x : Float) → target_field k x ≡ target_from (product k x)
+target_product = by_product in_target round_nearest target_from refl nearest-whole target-fraction
 
 -- ---- -1 - (q - 1) in an i32
 minus-one-less : (n : ℕ) → negsuc 0 -ℤ pos n ≡ negsuc n

@@ -9,10 +9,9 @@ use lib.Dec.{lit<, compare_is_eq, eqb}
 use lib.Pow.{pow-add, pow_pos, pow_mono, shr_lt, shl_exact}
 use lib.Ieee.Nearest.{div_same}
 use Rattle.numbers.proofs.TestLaws.{Cmp, cmp, compare-is}
-use Rattle.doubles_spec.specs.Forms.{rest_at, rest_by, rest_of, fraction}
+use Rattle.doubles_spec.specs.Forms.{product_of, rest_at, rest_by, rest_of, fraction}
 use Rattle.doubles_spec.specs.declared.Rest.{Rest}
 use Rattle.doubles_spec.specs.declared.Rest.TheVariants.{Nothing, LessThanHalf}
-use Rattle.doubles_spec.specs.declared.Product.TheVariants.{Finite}
 
 compare-scale : (a b c : ℕ) → 0 < c → compare (a * c) (b * c) ≡ compare a b
 compare-scale a b c C = compare-is (compare a b) (a * c) (b * c) (go (compare a b) (cmp a b))
@@ -46,31 +45,31 @@ rest-same a b c d B D h =
 
 pub fraction-same : (s : Bool) (a b c d : ℕ) → 0 < b → 0 < d → a * d ≡ c * b → fraction s a b ≡ fraction s c d
 fraction-same s a b c d B D h =
-    ap (λ (q : ℕ). Finite s (min q (2 ^ 52)) (rest_of a b)) (div_same a b c d B D h) ∙ ap (λ (r : Rest). Finite s (min (c / d) (2 ^ 52)) r) (rest-same a b c d B D h)
+    ap (λ (q : ℕ). product_of s (min q (2 ^ 52)) (rest_of a b)) (div_same a b c d B D h) ∙ ap (λ (r : Rest). product_of s (min (c / d) (2 ^ 52)) r) (rest-same a b c d B D h)
 
 -- ---- zero, and a fraction below a half
-pub zero-fraction : (s : Bool) (b : ℕ) → 0 < b → fraction s 0 b ≡ Finite s 0 Nothing
-zero-fraction s b B = ap (λ (q : ℕ). Finite s (min q (2 ^ 52)) (rest_of 0 b)) (div-eq_of_lt B) ∙ ap (λ (r : ℕ). Finite s 0 (rest_by r b)) (mod-eq_of_lt B)
+pub zero-fraction : (s : Bool) (b : ℕ) → 0 < b → fraction s 0 b ≡ product_of s 0 Nothing
+zero-fraction s b B = ap (λ (q : ℕ). product_of s (min q (2 ^ 52)) (rest_of 0 b)) (div-eq_of_lt B) ∙ ap (λ (r : ℕ). product_of s 0 (rest_by r b)) (mod-eq_of_lt B)
 
-pub small-fraction : (s : Bool) (a b : ℕ) → 0 < a → a * 2 < b → fraction s a b ≡ Finite s 0 LessThanHalf
+pub small-fraction : (s : Bool) (a b : ℕ) → 0 < a → a * 2 < b → fraction s a b ≡ product_of s 0 LessThanHalf
 small-fraction s a b p h =
     let l : a < b = omega arith in
-    ap (λ (q : ℕ). Finite s (min q (2 ^ 52)) (rest_of a b)) (div-eq_of_lt l)
-    ∙ ap (λ (r : ℕ). Finite s 0 (rest_at (eqb r 0) (compare (r * 2) b))) (mod-eq_of_lt l)
-    ∙ ap (λ (o : Ordering). Finite s 0 (rest_at (compare_is_eq o) (compare (a * 2) b))) (compare-is Ordering.gt a 0 p)
-    ∙ ap (λ (o : Ordering). Finite s 0 (rest_at false o)) (compare-is Ordering.lt (a * 2) b h)
+    ap (λ (q : ℕ). product_of s (min q (2 ^ 52)) (rest_of a b)) (div-eq_of_lt l)
+    ∙ ap (λ (r : ℕ). product_of s 0 (rest_at (eqb r 0) (compare (r * 2) b))) (mod-eq_of_lt l)
+    ∙ ap (λ (o : Ordering). product_of s 0 (rest_at (compare_is_eq o) (compare (a * 2) b))) (compare-is Ordering.gt a 0 p)
+    ∙ ap (λ (o : Ordering). product_of s 0 (rest_at false o)) (compare-is Ordering.lt (a * 2) b h)
 
 -- ---- digits * 2 ^ place / 2 ^ 1075
 module _ (s : Bool) (digits place : ℕ) (lo : 2 ^ 52 ≤ digits) (hi : digits < 2 ^ 53) where
-  pub large : 1075 ≤ place → fraction s (digits * 2 ^ place) (2 ^ 1075) ≡ Finite s (2 ^ 52) Nothing
+  pub large : 1075 ≤ place → fraction s (digits * 2 ^ place) (2 ^ 1075) ≡ product_of s (2 ^ 52) Nothing
   large h =
       let j = place - 1075 in
       let n = digits * 2 ^ j in
       let e : digits * 2 ^ place * 1 ≡ n * 2 ^ 1075 = mul-one (digits * 2 ^ place) ∙ ap (λ (p : ℕ). digits * 2 ^ p) (split h) ∙ ap (λ (p : ℕ). digits * p) (pow-add 2 j 1075) ∙ sym (mul_assoc digits (2 ^ j) (2 ^ 1075)) in
       fraction-same s (digits * 2 ^ place) (2 ^ 1075) n 1 (pow_pos 1075) (pow_pos 0) e
-      ∙ ap (λ (q : ℕ). Finite s (min q (2 ^ 52)) (rest_of n 1)) (div-one n)
-      ∙ ap (λ (q : ℕ). Finite s q (rest_of n 1)) (min-eq_right (le_trans lo (le-mul_of_pos_right digits (pow_pos j))))
-      ∙ ap (λ (r : ℕ). Finite s (2 ^ 52) (rest_at (eqb r 0) (compare (r * 2) 1))) (mod-one n)
+      ∙ ap (λ (q : ℕ). product_of s (min q (2 ^ 52)) (rest_of n 1)) (div-one n)
+      ∙ ap (λ (q : ℕ). product_of s q (rest_of n 1)) (min-eq_right (le_trans lo (le-mul_of_pos_right digits (pow_pos j))))
+      ∙ ap (λ (r : ℕ). product_of s (2 ^ 52) (rest_at (eqb r 0) (compare (r * 2) 1))) (mod-one n)
     where
       split : 1075 ≤ place → place ≡ place - 1075 + 1075
       split h = omega arith
@@ -84,21 +83,21 @@ module _ (s : Bool) (digits place : ℕ) (lo : 2 ^ 52 ≤ digits) (hi : digits <
       split : place < 1075 → place + (1075 - place) ≡ 1075
       split h = omega arith
 
-  pub tiny : (j : ℕ) → 55 ≤ j → fraction s digits (2 ^ j) ≡ Finite s 0 LessThanHalf
+  pub tiny : (j : ℕ) → 55 ≤ j → fraction s digits (2 ^ j) ≡ product_of s 0 LessThanHalf
   tiny j h =
       let p : 2 ^ 55 ≤ 2 ^ j = pow_mono h in
       small-fraction s digits (2 ^ j) (omega arith) (omega arith)
 
   -- below 2 ^ 52 the whole part is not cut
-  uncut : (j : ℕ) → 1 ≤ j → fraction s digits (2 ^ j) ≡ Finite s (digits / 2 ^ j) (rest_of digits (2 ^ j))
-  uncut j h = ap (λ (q : ℕ). Finite s q (rest_of digits (2 ^ j))) (min-eq_left (le_of_lt (shr_lt 52 j (lt_of_lt_of_le hi (pow_mono (fit h))))))
+  uncut : (j : ℕ) → 1 ≤ j → fraction s digits (2 ^ j) ≡ product_of s (digits / 2 ^ j) (rest_of digits (2 ^ j))
+  uncut j h = ap (λ (q : ℕ). product_of s q (rest_of digits (2 ^ j))) (min-eq_left (le_of_lt (shr_lt 52 j (lt_of_lt_of_le hi (pow_mono (fit h))))))
     where
       fit : 1 ≤ j → 53 ≤ 52 + j
       fit h = omega arith
 
   -- the whole part and what is left, by the unit that the code divides by
-  pub read_at : (u : ℕ) → u ≡ 2 ^ (1075 - place) → place < 1075 → Finite s (digits / u) (rest_of digits u) ≡ fraction s (digits * 2 ^ place) (2 ^ 1075)
-  read_at u e h = sym (shifted h ∙ uncut (1075 - place) (some-place h) ∙ ap (λ (v : ℕ). Finite s (digits / v) (rest_of digits v)) (sym e))
+  pub read_at : (u : ℕ) → u ≡ 2 ^ (1075 - place) → place < 1075 → product_of s (digits / u) (rest_of digits u) ≡ fraction s (digits * 2 ^ place) (2 ^ 1075)
+  read_at u e h = sym (shifted h ∙ uncut (1075 - place) (some-place h) ∙ ap (λ (v : ℕ). product_of s (digits / v) (rest_of digits v)) (sym e))
     where
       some-place : place < 1075 → 1 ≤ 1075 - place
       some-place h = omega arith

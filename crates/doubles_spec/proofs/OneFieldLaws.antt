@@ -12,10 +12,9 @@ use lib.Ieee.{Float, nan, inf, fin, up, down}
 use lib.Ieee.Fits.{down_pos}
 use lib.Ieee.Exact.{HasValue}
 use Rattle.numbers.specs.Signed.{over}
-use Rattle.numbers.specs.Checks.{Rule, rule_for, Holds, Broken, max_total}
+use Rattle.numbers.specs.Checks.{refused, Rule, rule_for, Holds, Broken, max_total}
 use Rattle.numbers.specs.Roundings.{signed, round_up, round_down, round_nearest}
 use Rattle.numbers.proofs.SignedLaws.{parts-le}
-use Rattle.numbers.specs.declared.Checked.TheVariants.{Fail}
 use Rattle.doubles_spec.specs.Import.{IsFinite, scaled, target_units, low_units, high_units, import_verdict, BoundRange, import_rules, double_at, units_at, import_units}
 use Rattle.doubles_spec.specs.OneField.{field_units, FieldRange, Gives, Refuses}
 use Rattle.doubles_spec.specs.declared.CellDoubles.{CellDoubles}
@@ -195,7 +194,7 @@ module _ (c : CellDoubles) (k : ℕ) (scale : k ≤ 30) where
   pub field-refuses : (field : ℕ) → FiniteAt c field → (RangeAt c k field → ⊥) → Refuses c k field 11
   field-refuses field f out =
       let s = rules-stop field f out in
-      let there : (n place : ℕ) → import_verdict c k ≡ Fail n place → (place ≤ field) × (place ≡ field → n ≡ 11) = λ n place v. stops-there field 11 (import_rules c k) s n place ((import-refuses c k n place).0 v) in
+      let there : (n place : ℕ) → import_verdict c k ≡ refused n place → (place ≤ field) × (place ≡ field → n ≡ 11) = λ n place v. stops-there field 11 (import_rules c k) s n place ((import-refuses c k n place).0 v) in
       record {
         not_accepted = λ v. stops-some field 11 (import_rules c k) s ((import-decides c k).passes.0 v);
         not_later = λ n place v. (there n place v).0;

@@ -1,7 +1,8 @@
 -- Export in binary32: its value is the nearest one and no other is; for a mass below 16777216 it is exact and the double itself, for mass 0
--- plus zero. An answer tells its verdict and its value and nothing else, and one of the right verdict and value keeps the contract. Then what
--- the code goes by: the highest set bit and the significand. Assumes nothing.
-use mathlib.Core.Path.{◌≡◌, refl, sym, ◌∙◌, ap, subst}
+-- plus zero. An answer of the right verdict and value keeps the contract. Then what the code goes by: the highest set bit and the significand.
+-- Assumes nothing.
+use Rattle.std.specs.Prelude.{Ok}
+use mathlib.Core.Path.{◌≡◌, sym, ◌∙◌, ap, subst}
 use mathlib.Core.Bool.{false}
 use Prim.Native.Nat.{ℕ, suc, ◌+◌, ◌-◌, ◌*◌, ◌/◌, ◌%◌, ◌^◌, ◌≤◌, ◌<◌, compare}
 use native.Mathlib.Nat.{le_trans, le_of_eq, lt_of_lt_of_le, lt_of_not-le, not-le_of_lt, div-lt_iff_lt-mul}
@@ -12,17 +13,12 @@ use lib.Count.{count_leading_zeros, leading_top}
 use lib.Pow.{pow-add, pow_pos, pow_mono, shl_lt}
 use lib.Ieee.{Float, fin, binary32, binary64, of_bits}
 use lib.Ieee.Fits.{fits_widens, nearest-le}
-use Rattle.numbers.specs.declared.Checked.TheVariants.{Pass}
-use Rattle.numbers.specs.Checks.{answered, max_total}
-use Rattle.numbers.proofs.TestLaws.{injective}
+use Rattle.numbers.specs.Checks.{Answered, answered, max_total}
 use Rattle.numbers.proofs.CheckLaws.{answered-accepted}
-use Rattle.doubles_spec.specs.Export.{export_verdict, ExportFits, export_double, export_tells, Exact, ExportContract}
+use Rattle.doubles_spec.specs.Export.{export_verdict, ExportFits, export_double, Exact, ExportContract}
 use Rattle.doubles_spec.specs.NearestValue.{NearestValue}
-use Rattle.doubles_spec.specs.ExportSingle.{export_single, single_tells, single_answer, SingleContract}
+use Rattle.doubles_spec.specs.ExportSingle.{export_single, SingleContract}
 use Rattle.doubles_spec.specs.Forms.{HighestBit, significand}
-use Rattle.doubles_spec.specs.declared.Exported.TheVariants.{Double}
-use Rattle.doubles_spec.specs.declared.SingleExported.{SingleExported}
-use Rattle.doubles_spec.specs.declared.SingleExported.TheVariants.{Single, Refused}
 use Rattle.doubles_spec.proofs.ValueLaws.{value-fits, value-exact, exact-unique, value-zero}
 use Rattle.doubles_spec.proofs.RoundedBits.{value-bits}
 use Rattle.doubles_spec.proofs.NearestLaws.{value-nearest, value-only}
@@ -51,17 +47,8 @@ single-zero = value-zero binary32
 
 -- ---- the answer
 
--- what an answer tells is the answer
-told_back : (a : SingleExported) → single_answer (single_tells a) ≡ a
-unfolding single_tells
-told_back (Single x) = refl
-told_back (Refused number place) = refl
-
-pub single-tells-injective : (a b : SingleExported) → single_tells a ≡ single_tells b → a ≡ b
-single-tells-injective = injective single_answer told_back
-
 -- an answer of the right verdict and value keeps the contract
-pub single-meets : (mass k : ℕ) (a : SingleExported) → single_tells a ≡ answered (export_verdict mass k) (export_single mass k) → SingleContract mass k a
+pub single-meets : (mass k : ℕ) (a : Answered Float) → a ≡ answered (export_verdict mass k) (export_single mass k) → SingleContract mass k a
 single-meets mass k a e =
     record {
       answers = e;
@@ -74,13 +61,11 @@ single-meets mass k a e =
 -- ---- calls
 
 -- an accepted call gives the value of an accepted mass and scale
-single-told : {mass k : ℕ} {x : Float} → SingleContract mass k (Single x) → (export_verdict mass k ≡ Pass) × (x ≡ export_single mass k)
-unfolding single_tells
+single-told : {mass k : ℕ} {x : Float} → SingleContract mass k (Ok x) → (export_verdict mass k ≡ Ok tt) × (x ≡ export_single mass k)
 single-told {mass} {k} {x} p = answered-accepted (export_verdict mass k) x (export_single mass k) p.answers
 
 -- below 16777216 both exports give the same
-pub single-as-double : {mass k : ℕ} {x y : Float} → mass < 16777216 → SingleContract mass k (Single x) → ExportContract mass k (Double y) → x ≡ y
-unfolding export_tells
+pub single-as-double : {mass k : ℕ} {x y : Float} → mass < 16777216 → SingleContract mass k (Ok x) → ExportContract mass k (Ok y) → x ≡ y
 single-as-double {mass} {k} {x} {y} h p q =
     let s = single-told p in
     let d = answered-accepted (export_verdict mass k) y (export_double mass k) q.answers in

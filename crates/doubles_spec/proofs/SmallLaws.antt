@@ -1,5 +1,6 @@
 -- What a zero and a subnormal give, at every scale. A zero gives 0, whatever its sign. A subnormal gives 0 as a target, 1 if above zero and
 -- 0 if below as a low, and 0 if above and −1, which is refused, if below as a high. Assumes nothing.
+use Rattle.std.specs.Prelude.{Ok}
 use mathlib.Core.Path.{◌≡◌, refl, sym, ap, ◌∙◌, subst}
 use mathlib.Core.Bool.{Bool, true, false, not, cond}
 use Prim.Native.Nat.{Ordering}
@@ -10,7 +11,7 @@ use lib.IntN.{ℤ, pos, negsuc}
 use borrow.Author.Tests.{ne_eqb}
 use lib.Ieee.{Float, nan, inf, fin, up, down}
 use lib.Ieee.Nearest.{closest}
-use Rattle.numbers.specs.Checks.{accepted, refused}
+use Rattle.numbers.specs.Checks.{refused}
 use Rattle.numbers.specs.Roundings.{ceiling, signed}
 use Rattle.numbers.proofs.TestLaws.{compare-is}
 use Rattle.doubles_spec.specs.Import.{IsFinite, target_units, low_units, high_units, BoundRange, double_at}
@@ -73,12 +74,12 @@ module _ (k : ℕ) (K : k ≤ 30) where
 module _ (c : CellDoubles) (k : ℕ) (K : k ≤ 30) where
   -- a bound's field is no target's
   as-low : (field : ℕ) (below : Bool) → IsFinite (double_at c (suc field)) → field_units (suc field) k (double_at c (suc field)) ≡ cond below (pos 0) (pos 1)
-      → FieldAnswers c k (suc field) (cond (not below) (accepted (pos 1)) (accepted (pos 0)))
+      → FieldAnswers c k (suc field) (cond (not below) (Ok (pos 1)) (Ok (pos 0)))
   as-low field true f e = whole-gives c k (suc field) K f (omega arith) e
   as-low field false f e = whole-gives c k (suc field) K f (omega arith) e
 
   as_high : (field : ℕ) (below : Bool) → IsFinite (double_at c (suc field)) → field_units (suc field) k (double_at c (suc field)) ≡ cond below (negsuc 0) (pos 0)
-      → FieldAnswers c k (suc field) (cond below (refused 11 (suc field)) (accepted (pos 0)))
+      → FieldAnswers c k (suc field) (cond below (refused 11 (suc field)) (Ok (pos 0)))
   as_high field true f e = field-refuses c k K (suc field) f (λ r. (subst BoundRange e r).0.le)
   as_high field false f e = whole-gives c k (suc field) K f (omega arith) e
 

@@ -1,20 +1,17 @@
 -- Importing exported masses at their scale gives the masses again: in each field, whatever the other four hold; and of calls, if each of the
 -- five fields is an exported mass, exactly these units. Assumes nothing.
+use Rattle.std.specs.Prelude.{Ok}
 use mathlib.Core.Path.{◌≡◌, refl, sym, ◌∙◌, subst}
 use mathlib.Core.Bool.{false}
 use Prim.Native.Nat.{ℕ, ◌<◌}
 use lib.IntN.{pos}
 use lib.Ieee.{Float}
-use Rattle.numbers.specs.declared.Checked.TheVariants.{Pass}
 use Rattle.numbers.proofs.CheckLaws.{answered-accepted}
-use Rattle.doubles_spec.specs.Import.{target_units, low_units, high_units, import_verdict, TargetRange, BoundRange, double_at, import_units, import_tells, import_holds, carried, ImportContract}
-use Rattle.doubles_spec.specs.Export.{export_verdict, ExportFits, export_double, export_tells, ExportContract}
+use Rattle.doubles_spec.specs.Import.{Imported, target_units, low_units, high_units, import_verdict, TargetRange, BoundRange, double_at, import_units, import_tells, import_holds, carried, ImportContract}
+use Rattle.doubles_spec.specs.Export.{export_verdict, ExportFits, export_double, ExportContract}
 use Rattle.doubles_spec.specs.OneField.{Gives}
 use Rattle.doubles_spec.specs.Trip.{CellMasses, ExportedAt, mass_units}
 use Rattle.doubles_spec.specs.declared.CellDoubles.{CellDoubles}
-use Rattle.doubles_spec.specs.declared.Imported.{Imported}
-use Rattle.doubles_spec.specs.declared.Imported.TheVariants.{Units}
-use Rattle.doubles_spec.specs.declared.Exported.TheVariants.{Double}
 use Rattle.doubles_spec.proofs.ImportLaws.{import-accepts, import-answer-injective}
 use Rattle.doubles_spec.proofs.OneFieldLaws.{whole-range, RoundsTo, same_gives, rounds-to}
 use Rattle.doubles_spec.proofs.ExportLaws.{export-accepts, export-exact}
@@ -29,12 +26,10 @@ round_trip {mass} {k} fits c field l e =
 -- ---- calls
 
 -- what an accepted call of Export says of its mass and its double
-exported-fits : {mass k : ℕ} {x : Float} → ExportContract mass k (Double x) → ExportFits mass k
-unfolding export_tells
+exported-fits : {mass k : ℕ} {x : Float} → ExportContract mass k (Ok x) → ExportFits mass k
 exported-fits {mass} {k} {x} p = (export-accepts mass k).0 (answered-accepted (export_verdict mass k) x (export_double mass k) p.answers).0
 
-exported-back : {mass k : ℕ} {x : Float} → ExportContract mass k (Double x) → RoundsTo mass k x
-unfolding export_tells
+exported-back : {mass k : ℕ} {x : Float} → ExportContract mass k (Ok x) → RoundsTo mass k x
 exported-back {mass} {k} {x} p = rounds-to k mass false refl (exported-fits p).small x (p.exact x refl)
 
 -- what rounds to a mass is in range
@@ -49,7 +44,7 @@ module _ {mass k : ℕ} {x : Float} (r : RoundsTo mass k x) where
   in-high = subst BoundRange (sym r.high) (whole-range 1 r.small)
 
 module _ {k : ℕ} {m : CellMasses} {c : CellDoubles} (p : ExportedAt k m c) where
-  import-passes : import_verdict c k ≡ Pass
+  import-passes : import_verdict c k ≡ Ok tt
   import-passes =
       let t = exported-back p.target in
       let l = exported-back p.low in
@@ -76,9 +71,9 @@ module _ {k : ℕ} {m : CellMasses} {c : CellDoubles} (p : ExportedAt k m c) whe
   import-gives = rw ((exported-back p.target).target, (exported-back p.low).low, (exported-back p.high).high, (exported-back p.safe_low).low, (exported-back p.safe_high).high)
 
   -- five masses exported at a scale and imported in the five fields are accepted, and give exactly those units
-  pub round-trip-calls : {answer : Imported} → ImportContract c k answer → answer ≡ Units (mass_units m)
+  pub round-trip-calls : {answer : Imported} → ImportContract c k answer → answer ≡ Ok (mass_units m)
   unfolding import_tells import_holds carried
   round-trip-calls {answer} i =
-      import-answer-injective answer (Units (mass_units m))
+      import-answer-injective answer (Ok (mass_units m))
       (i.answers ∙ rw (import-passes, import-gives))
       (i.carries ∙ rw import-passes)

@@ -1,9 +1,9 @@
 -- The five classes of IEEE 754 (its section 3.4), in the order of 02, ticket 4: of a double by its value and by its bit pattern; and what a
 -- subnormal gives. Assumes nothing.
-use Rattle.std.specs.Prelude.{◌≡◌, Bool, false, not, ◌&&◌, ◌||◌, cond, ℕ, ◌*◌, ◌/◌, ◌%◌, ◌^◌, ◌≤◌, ◌<◌, ℤ, pos, eqb, Float}
+use Rattle.std.specs.Prelude.{Ok, Err, ◌≡◌, Bool, false, not, ◌&&◌, ◌||◌, cond, ℕ, ◌*◌, ◌/◌, ◌%◌, ◌^◌, ◌≤◌, ◌<◌, ℤ, pos, eqb, Float}
 use Rattle.std.specs.Float.{nan, inf, fin}
 use Rattle.std.specs.Float.Ieee.{up, down}
-use Rattle.numbers.specs.Checks.{Answered, accepted, refused}
+use Rattle.numbers.specs.Checks.{Answered, refused}
 use Rattle.doubles_spec.specs.OneField.{Gives, Refuses}
 use Rattle.doubles_spec.specs.declared.CellDoubles.{CellDoubles}
 use Rattle.doubles_spec.specs.declared.Class.{Class}
@@ -61,9 +61,9 @@ abbrev is_high : ℕ → Bool
 is_high field = eqb field 2 || eqb field 4
 
 abbrev pub subnormal_answer : Bool → ℕ → Answered ℤ
-subnormal_answer below field = cond (is_low field && not below) (accepted (pos 1)) (cond (is_high field && below) (refused 11 field) (accepted (pos 0)))
+subnormal_answer below field = cond (is_low field && not below) (Ok (pos 1)) (cond (is_high field && below) (refused 11 field) (Ok (pos 0)))
 
 -- a cell gives this in a field, whatever the other four hold
 abbrev pub FieldAnswers : CellDoubles → ℕ → ℕ → Answered ℤ → Type 0
-FieldAnswers c k field (accepted units) = Gives c k field units
-FieldAnswers c k field (refused number place) = Refuses c k place number
+FieldAnswers c k field (Ok units) = Gives c k field units
+FieldAnswers c k field (Err r) = Refuses c k r.place r.number

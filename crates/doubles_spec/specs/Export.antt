@@ -1,12 +1,9 @@
 -- The operation Export: its verdict and its answer. Assumes nothing.
-use Rattle.std.specs.Prelude.{◌≡◌, false, List, [], ◌∷◌, ℕ, ◌^◌, ◌≤◌, leb, Float}
+use Rattle.std.specs.Prelude.{Ok, ◌≡◌, false, List, [], ◌∷◌, ℕ, ◌^◌, ◌≤◌, leb, Float}
 use Rattle.std.specs.Float.{Format, binary64}
 use Rattle.std.specs.Float.Ieee.{round}
 use Rattle.std.specs.Float.Ieee.Exact.{HasValue}
-use Rattle.numbers.specs.declared.Checked.{Checked}
-use Rattle.numbers.specs.Checks.{Answered, accepted, refused, answered, unless, first, Rule, rule, max_total, check_scale}
-use Rattle.doubles_spec.specs.declared.Exported.{Exported}
-use Rattle.doubles_spec.specs.declared.Exported.TheVariants.{Double, Refused}
+use Rattle.numbers.specs.Checks.{Checked, Answered, answered, unless, first, Rule, rule, max_total, check_scale}
 
 -- 11: the mass is at most 2147483647
 unfoldable pub check_mass : ℕ → Checked
@@ -34,21 +31,11 @@ export_value f mass k = round f false mass (2 ^ k)
 abbrev pub export_double : ℕ → ℕ → Float
 export_double mass k = export_value binary64 mass k
 
--- what an answer tells
-unfoldable pub export_tells : Exported → Answered Float
-export_tells (Double x) = accepted x
-export_tells (Refused number place) = refused number place
-
--- the answer that tells this
-abbrev pub export_answer : Answered Float → Exported
-export_answer (accepted x) = Double x
-export_answer (refused number place) = Refused number place
-
 -- x is mass * 2 ^ −k exactly, with the sign plus: of x = fin s m e, s is false and m * up e * 2 ^ k ≡ mass * down e
 abbrev pub Exact : ℕ → ℕ → Float → Type 0
 Exact mass k x = HasValue x false mass (2 ^ k)
 
 -- the whole contract of the operation
-pub record ExportContract (mass k : ℕ) (answer : Exported) : Type 0 where
-  pub answers : export_tells answer ≡ answered (export_verdict mass k) (export_double mass k)
-  pub exact : (x : Float) → export_tells answer ≡ accepted x → Exact mass k x
+pub record ExportContract (mass k : ℕ) (answer : Answered Float) : Type 0 where
+  pub answers : answer ≡ answered (export_verdict mass k) (export_double mass k)
+  pub exact : (x : Float) → answer ≡ Ok x → Exact mass k x

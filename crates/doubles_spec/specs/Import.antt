@@ -1,17 +1,15 @@
 -- The operation Import: its verdict and its answer. Assumes nothing.
-use Rattle.std.specs.Prelude.{◌≡◌, Bool, true, false, ◌&&◌, cond, List, [], ◌∷◌, ℕ, ◌*◌, ◌^◌, ◌≤◌, eqb, ℤ, pos, negsuc, get_or, ◌≤ℤ◌, Float}
+use Rattle.std.specs.Prelude.{Result, Ok, Err, ◌≡◌, Bool, true, false, ◌&&◌, cond, List, [], ◌∷◌, ℕ, ◌*◌, ◌^◌, ◌≤◌, eqb, ℤ, pos, negsuc, get_or, ◌≤ℤ◌, Float}
 use Rattle.std.specs.Int.Signed.{le_z}
 use Rattle.std.specs.Float.{nan, inf, fin}
 use Rattle.std.specs.Float.Ieee.{up, down}
-use Rattle.numbers.specs.declared.Checked.{Checked}
-use Rattle.numbers.specs.declared.Checked.TheVariants.{Pass, Fail}
 use Rattle.numbers.specs.Signed.{over}
-use Rattle.numbers.specs.Checks.{Answered, accepted, refused, answered, unless, first, Rule, rule, rule_for, max_total, check_scale}
+use Rattle.numbers.specs.Checks.{Checked, Answered, refused, answered, unless, first, Rule, rule, rule_for, max_total, check_scale}
 use Rattle.numbers.specs.Roundings.{round_down, round_up, round_nearest}
 use Rattle.doubles_spec.specs.declared.CellDoubles.{CellDoubles}
 use Rattle.doubles_spec.specs.declared.CellUnits.{CellUnits}
-use Rattle.doubles_spec.specs.declared.Imported.{Imported}
-use Rattle.doubles_spec.specs.declared.Imported.TheVariants.{Units, BadScale, Refused}
+use Rattle.doubles_spec.specs.declared.ImportRefusal.{ImportRefusal}
+use Rattle.doubles_spec.specs.declared.ImportRefusal.TheVariants.{Scale, Double}
 
 -- ---- one double
 
@@ -130,33 +128,37 @@ import_units c k =
       safe_high = over (high_units k c.safe_high);
     }
 
--- what an answer tells
+-- what the operation answers
+abbrev pub Imported : Type 0
+Imported = Result CellUnits ImportRefusal
+
+-- what an answer tells: its refusal has more than a number and a place
 unfoldable pub import_tells : Imported → Answered CellUnits
-import_tells (Units u) = accepted u
-import_tells BadScale = refused 9 0
-import_tells (Refused number field double) = refused number field
+import_tells (Ok u) = Ok u
+import_tells (Err Scale) = refused 9 0
+import_tells (Err (Double number field double)) = refused number field
 
 -- the double that an answer holds, if it holds one
 unfoldable pub import_holds : Imported → List Float
-import_holds (Units u) = []
-import_holds BadScale = []
-import_holds (Refused number field double) = double ∷ []
+import_holds (Ok u) = []
+import_holds (Err Scale) = []
+import_holds (Err (Double number field double)) = double ∷ []
 
 -- the answer that tells this and holds this
 abbrev pub import_holding : Answered CellUnits → List Float → Imported
-import_holding (accepted u) doubles = Units u
-import_holding (refused number place) [] = BadScale
-import_holding (refused number place) (double ∷ doubles) = Refused number place double
+import_holding (Ok u) doubles = Ok u
+import_holding (Err r) [] = Err Scale
+import_holding (Err r) (double ∷ doubles) = Err (Double r.number r.place double)
 
 -- the answer that tells this of a cell: a refused double is the one that was passed for the field
 abbrev pub import_answer : Answered CellUnits → CellDoubles → Imported
-import_answer (accepted u) c = Units u
-import_answer (refused number place) c = cond (eqb number 9) BadScale (Refused number place (double_at c place))
+import_answer (Ok u) c = Ok u
+import_answer (Err r) c = Err (cond (eqb r.number 9) Scale (Double r.number r.place (double_at c r.place)))
 
 -- a field's refusal carries the field's double as it came; the scale's, number 9, carries none
 unfoldable pub carried : Checked → CellDoubles → List Float
-carried Pass c = []
-carried (Fail number place) c = cond (eqb number 9) [] (double_at c place ∷ [])
+carried (Ok tt) c = []
+carried (Err r) c = cond (eqb r.number 9) [] (double_at c r.place ∷ [])
 
 -- the whole contract of the operation
 pub record ImportContract (c : CellDoubles) (k : ℕ) (answer : Imported) : Type 0 where

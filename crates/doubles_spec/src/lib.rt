@@ -1,7 +1,11 @@
 // Import and Export, and Export in binary32: doubles to units and units to doubles by IEEE 754. What the operations check and answer, the five
-// classes of a double, the nearest value of a format, the forms that the code follows, and the laws. Definitions (specs/) and laws (proofs/)
-// alone; the code is in the crates `rounded_division`, `double_fields` and `doubles`. Relies on `numbers`, where the roundings stand.
+// classes of a double, the nearest value of a format, the forms that the code follows, and the laws. The types, definitions (specs/) and laws
+// (proofs/), with a fault's number; the code is in the crates `rounded_division`, `double_fields` and `doubles`. Relies on `numbers`, where the
+// roundings stand.
 #![tactic(auto)]
+
+ghost use Rattle.std.specs.Prelude.{◌≡◌};
+ghost use Rattle.doubles_spec.specs.Forms.{fault_number};
 
 // The five doubles of a cell.
 #[derive(Clone, Copy)]
@@ -23,30 +27,15 @@ pub struct CellUnits {
     pub safe_high: u32,
 }
 
-// Import's answer: the units; the scale refused, with no double; or the double refused as it came, with 01's number and its field, 0 to 4.
+// Why an import is refused: the scale, with no double; or a double as it came, with 01's number and its field, 0 to 4.
 #[derive(Clone, Copy)]
-pub enum Imported {
-    Units(CellUnits),
-    BadScale,
-    Refused {
+pub enum ImportRefusal {
+    Scale,
+    Double {
         number: u32,
         field: u32,
         double: f64,
     },
-}
-
-// Export's answer.
-#[derive(Clone, Copy)]
-pub enum Exported {
-    Double(f64),
-    Refused { number: u32, place: u32 },
-}
-
-// The answer of Export in binary32 (02, ticket 5).
-#[derive(Clone, Copy)]
-pub enum SingleExported {
-    Single(f32),
-    Refused { number: u32, place: u32 },
 }
 
 // The five classes of a double by IEEE 754, in the order of 02 (ticket 4).
@@ -68,27 +57,30 @@ pub enum Rest {
     MoreThanHalf,
 }
 
-// For the code alone: a double times 2^k. Of a finite one the sign, the whole part of the size (cut at 2^52, which is out of every range)
-// and what is left of it.
+// For the code alone: a finite double times 2^k. The sign, the whole part of the size (cut at 2^52, which is out of every range) and what is
+// left of it.
 #[derive(Clone, Copy)]
-pub enum Product {
-    Finite {
-        negative: bool,
-        whole: u64,
-        rest: Rest,
-    },
+pub struct Product {
+    pub negative: bool,
+    pub whole: u64,
+    pub rest: Rest,
+}
+
+// For the code alone: why a field is refused.
+#[derive(Clone, Copy)]
+pub enum FieldFault {
     NotFinite,
+    OutOfRange,
 }
 
-// For the code alone: what one field gives, its units or the refusal's number.
-#[derive(Clone, Copy)]
-pub enum TargetField {
-    Units(i32),
-    Bad(u32),
-}
-
-#[derive(Clone, Copy)]
-pub enum BoundField {
-    Units(u32),
-    Bad(u32),
+impl FieldFault {
+    // The number that 01 gives it.
+    pub fn number(self) -> u32
+        ensures { result ≡ fault_number self }
+    {
+        match self {
+            FieldFault::NotFinite => 10,
+            FieldFault::OutOfRange => 11,
+        }
+    }
 }

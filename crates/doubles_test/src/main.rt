@@ -7,114 +7,119 @@
 // taken as 4294967295.
 // A line has `units` and the five units, `double` or `single` and its bit pattern, or `refused` with number and place. Where the refusal
 // carries a double, its bit pattern follows, or `nan`. The cases end with the input, of which at most 65,536 bytes are read.
-// Relies on `doubles`, which it tests, `doubles_spec` for the answers, `test_support`, and the kit's `io`.
+// Relies on `doubles`, which it tests, `doubles_spec` and `numbers` for the answers, `test_support`, and the kit's `io`.
 #![tactic(auto)]
 
-ghost use Rattle.std.specs.Prelude.{◌≤◌, length};
-
-use doubles_spec::{CellDoubles, Exported};
-use test_support::input::{STANDARD_INPUT, later, read_unsigned, skip};
-use test_support::output::{show_no_kind, show_refusal};
+use doubles_spec::{CellDoubles, ImportRefusal};
+use numbers::Refusal;
+use output::{Double, Single};
+use std::fmt;
+use std::fmt::Write;
+use test_support::input::STANDARD_INPUT;
+use test_support::output::Output;
+use test_support::reader::Reader;
 
 mod input;
 mod output;
 
-// Runs Import on the case whose numbers start at `at`. Returns the position behind them.
-fn run_import(text: &[u8], at: usize) -> usize
-    requires { at ≤ length text.now }
-    ensures { result ≤ length text.now }
-{
-    let case = input::read_import(text, at);
-    output::show_import(doubles::import(case.cell, case.scale));
-    case.next
+// Prints what Import answers. A refused scale is 01's number 9 at place 0; a field's refusal carries its double.
+fn show_import(cell: CellDoubles, scale: u32) -> fmt::Result {
+    match doubles::import(cell, scale) {
+        Ok(units) => writeln!(
+            Output,
+            "units {} {} {} {} {}",
+            units.target, units.low, units.high, units.safe_low, units.safe_high
+        ),
+        Err(ImportRefusal::Scale) => writeln!(
+            Output,
+            "{}",
+            Refusal {
+                number: 9,
+                place: 0
+            }
+        ),
+        Err(
+            ImportRefusal::Double {
+                number,
+                field,
+                double,
+            },
+        ) => writeln!(Output, "refused {number} {field} {}", Double(double)),
+    }
+}
+
+// Runs Import on the numbers that stand next.
+fn run_import(reader: &mut Reader) -> fmt::Result {
+    let scale = input::word(reader);
+    let cell = input::cell(reader);
+    show_import(cell, scale)
 }
 
 // The same for Export.
-fn run_export(text: &[u8], at: usize) -> usize
-    requires { at ≤ length text.now }
-    ensures { result ≤ length text.now }
-{
-    let case = input::read_export(text, at);
-    output::show_export(doubles::export(case.mass, case.scale));
-    case.next
+fn run_export(reader: &mut Reader) -> fmt::Result {
+    let mass = input::word(reader);
+    match doubles::export(mass, input::word(reader)) {
+        Ok(x) => writeln!(Output, "double {}", Double(x)),
+        Err(refusal) => writeln!(Output, "{refusal}"),
+    }
 }
 
 // The same for Export in binary32.
-fn run_export_single(text: &[u8], at: usize) -> usize
-    requires { at ≤ length text.now }
-    ensures { result ≤ length text.now }
-{
-    let case = input::read_export(text, at);
-    output::show_export_single(doubles::export_single(case.mass, case.scale));
-    case.next
+fn run_export_single(reader: &mut Reader) -> fmt::Result {
+    let mass = input::word(reader);
+    match doubles::export_single(mass, input::word(reader)) {
+        Ok(x) => writeln!(Output, "single {}", Single(x)),
+        Err(refusal) => writeln!(Output, "{refusal}"),
+    }
 }
 
-// Imports a double in all five fields.
-fn import_all(x: f64, scale: u32) {
-    let cell = CellDoubles {
-        target: x,
-        low: x,
-        high: x,
-        safe_low: x,
-        safe_high: x,
-    };
-    output::show_import(doubles::import(cell, scale));
-}
-
-// Exports a mass, and imports what that gave.
-fn export_import(mass: u32, scale: u32) {
+// The same for Export, and Import of the double in all five fields.
+fn run_both(reader: &mut Reader) -> fmt::Result {
+    let mass = input::word(reader);
+    let scale = input::word(reader);
     match doubles::export(mass, scale) {
-        Exported::Double(x) => {
-            import_all(x, scale);
+        Ok(x) => {
+            let cell = CellDoubles {
+                target: x,
+                low: x,
+                high: x,
+                safe_low: x,
+                safe_high: x,
+            };
+            show_import(cell, scale)
         }
-        Exported::Refused { number, place } => {
-            show_refusal(number, place);
+        Err(refusal) => writeln!(Output, "{refusal}"),
+    }
+}
+
+// Runs the case that stands next.
+fn run_case(reader: &mut Reader) -> fmt::Result {
+    match reader.unsigned() {
+        1 => run_import(reader)?,
+        2 => run_export(reader)?,
+        3 => run_both(reader)?,
+        4 => run_export_single(reader)?,
+        _ => writeln!(Output, "no such kind")?,
+    }
+    reader.skip();
+    Ok(())
+}
+
+// Runs the cases of a text. There are no more of them than bytes.
+fn run_all(text: &[u8]) -> fmt::Result {
+    let mut reader = Reader::new(text);
+    for _ in 0..text.len() {
+        if !reader.begin_case() {
+            break;
         }
+        run_case(&mut reader)?;
     }
-}
-
-// The same for Export and then Import.
-fn run_both(text: &[u8], at: usize) -> usize
-    requires { at ≤ length text.now }
-    ensures { result ≤ length text.now }
-{
-    let case = input::read_export(text, at);
-    export_import(case.mass, case.scale);
-    case.next
-}
-
-// Runs the case that starts at `at`. Returns where the next may start.
-fn run_case(text: &[u8], at: usize) -> usize
-    requires { at ≤ length text.now }
-{
-    let kind = read_unsigned(text, at);
-    if kind.value == 1 {
-        return skip(text, run_import(text, kind.next));
-    }
-    if kind.value == 2 {
-        return skip(text, run_export(text, kind.next));
-    }
-    if kind.value == 3 {
-        return skip(text, run_both(text, kind.next));
-    }
-    if kind.value == 4 {
-        return skip(text, run_export_single(text, kind.next));
-    }
-    show_no_kind();
-    skip(text, kind.next)
-}
-
-// Runs all cases. Each takes at least a byte, so that the loop ends whatever the bytes are.
-fn run_all(text: &[u8]) {
-    let mut at = skip(text, 0);
-    while at < text.len() {
-        at = later(at + 1, run_case(text, at));
-    }
+    Ok(())
 }
 
 // Reads the input, and runs its cases.
 fn main() {
     let mut space = io::large_buffer();
     let n = io::read_full(STANDARD_INPUT, &mut space);
-    run_all(&space[..n]);
+    let _ = run_all(&space[..n]);
 }

@@ -1,5 +1,6 @@
 -- 01's starred examples and that of ticket 6 of 02 hold: one fact over the whole table. The bytes of E1's file go by the law that what is
 -- written is read back; all else is computed. Assumes nothing.
+use Rattle.std.specs.Prelude.{Ok}
 use mathlib.Core.Path.{◌≡◌, refl, ◌∙◌, ap, ap₂}
 use mathlib.Core.List.{List, [], ◌∷◌, map}
 use Prim.Native.Nat.{ℕ, zero, suc, ◌*◌, ◌^◌, ◌<◌}
@@ -7,7 +8,6 @@ use native.Mathlib.Omega.{arith}
 use lib.IntN.{pos, negsuc}
 use lib.Ieee.{of_bits}
 use lib.Signed.{◌≤ℤ◌}
-use Rattle.numbers.specs.declared.Checked.TheVariants.{Pass}
 use Rattle.numbers.specs.Sums.{sum_to}
 use Rattle.numbers.specs.Lists.{at_ℤ, list_to}
 use Rattle.numbers.specs.Signed.{min_ℤ, max_ℤ}
@@ -43,7 +43,7 @@ use Rattle.examples_spec.specs.Starred.{gives, text, Row, rows, others, e1_lists
 abbrev call_of : Lists → ℕ → ReconstructCall
 call_of f M = reconstruct_call f M (list_to (cells f) (λ i. 0)) (list_to (width * nodes f) (λ i. pos 0))
 
-text_of : (f : Lists) (M : ℕ) → Storable f M → reconstruct_verdict (call_of f M) ≡ Pass → report_text (field_bytes f M) ≡ listing (cells f) (repair f M) (tree_masses (field f) M) f.targets
+text_of : (f : Lists) (M : ℕ) → Storable f M → reconstruct_verdict (call_of f M) ≡ Ok tt → report_text (field_bytes f M) ≡ listing (cells f) (repair f M) (tree_masses (field f) M) f.targets
 unfolding report_text file_repair file_masses
 text_of f M g e =
     let s = stored-lists f M g in
@@ -52,7 +52,7 @@ text_of f M g e =
 
 -- the line for one of its cells
 query-of :
-    (f : Lists) (M cell : ℕ) → Storable f M → reconstruct_verdict (call_of f M) ≡ Pass → cell < cells f
+    (f : Lists) (M cell : ℕ) → Storable f M → reconstruct_verdict (call_of f M) ≡ Ok tt → cell < cells f
     → query_text (field_bytes f M) cell ≡ parts_line (outcome_number (outcome (field f) M)) (cell_parts (field f) M cell)
 query-of f M cell g e l =
     let s = stored-lists f M g in
@@ -114,7 +114,7 @@ storable =
           };
     }
 
-e1-verdict : reconstruct_verdict (call_of e1_lists 16) ≡ Pass
+e1-verdict : reconstruct_verdict (call_of e1_lists 16) ≡ Ok tt
 unfolding sum_to list_to each_from first_from check_count child_of any_child parent_ok node_ok check_nodes check_lists check_tree bounds_ordered check_order check_sum check_reach check_shape check_values reconstruct_verdict
 e1-verdict = refl
 

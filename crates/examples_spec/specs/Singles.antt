@@ -1,8 +1,8 @@
 -- Export in binary32 (02, ticket 5) at masses about 16777216 and at the ends, by the definitions that its contract cites. Assumes nothing.
-use Rattle.std.specs.Prelude.{◌≡◌, refl, List, [], ◌∷◌, map, ℕ, Float}
+use Rattle.std.specs.Prelude.{Ok, ◌≡◌, refl, List, [], ◌∷◌, map, ℕ, Float}
 use Rattle.std.specs.Float.{binary32}
 use Rattle.std.specs.Float.Ieee.{of_bits, round}
-use Rattle.numbers.specs.Checks.{Answered, accepted, refused, answered, check_scale}
+use Rattle.numbers.specs.Checks.{Answered, refused, answered, check_scale}
 use Rattle.doubles_spec.specs.Export.{check_mass, export_verdict, export_value}
 use Rattle.doubles_spec.specs.ExportSingle.{export_single}
 
@@ -14,7 +14,7 @@ pub record Row : Type 0 where
 
 -- accepted, with the binary32 of a bit pattern
 abbrev single : ℕ → ℕ → ℕ → Row
-single mass scale bits = record { mass = mass; scale = scale; told = accepted (of_bits binary32 bits) }
+single mass scale bits = record { mass = mass; scale = scale; told = Ok (of_bits binary32 bits) }
 
 abbrev no : ℕ → ℕ → ℕ → Row
 no mass scale number = record { mass = mass; scale = scale; told = refused number 0 }

@@ -1,9 +1,9 @@
 -- 01's starred examples, E1 to E10: what is asked, and what must be given, with d and what is shared out (ticket 2 of 02) and with the rounding
 -- of ticket 3 of 02, by which E2 with M 2 and E4 give other masses than in 01; and the example of ticket 6 of 02. Assumes nothing.
-use Rattle.std.specs.Prelude.{List, [], ◌∷◌, ℕ, ℤ, pos, negsuc, replicate, Float}
+use Rattle.std.specs.Prelude.{Ok, List, [], ◌∷◌, ℕ, ℤ, pos, negsuc, replicate, Float}
 use Rattle.std.specs.Float.{binary64}
 use Rattle.std.specs.Float.Ieee.{of_bits}
-use Rattle.numbers.specs.Checks.{Answered, accepted, refused, answered, after}
+use Rattle.numbers.specs.Checks.{Answered, refused, answered, after}
 use Rattle.caas_spec.specs.Operation.{SplitCall, split_call, split_verdict, split_masses, split_deficit}
 use Rattle.qlt_spec.specs.declared.Repair.{Repair}
 use Rattle.qlt_spec.specs.Field.{Lists, lists, field}
@@ -73,13 +73,13 @@ cell t l h = record { target = bits t; low = bits l; high = bits h; safe_low = b
 -- ---- what must be given
 
 abbrev done : ℤ → List ℤ → Given
-done d masses = split (accepted d) masses
+done d masses = split (Ok d) masses
 
 abbrev repaired : (outcome total change shared : ℕ) → List ℕ → Given
-repaired outcome total change shared masses = repair (accepted (record { outcome = outcome; total = total; change = change; shared = shared })) masses
+repaired outcome total change shared masses = repair (Ok (record { outcome = outcome; total = total; change = change; shared = shared })) masses
 
 abbrev units : ℤ → Given
-units t = import (accepted (record { target = t; low = 0; high = 0; safe_low = 0; safe_high = 0 })) []
+units t = import (Ok (record { target = t; low = 0; high = 0; safe_low = 0; safe_high = 0 })) []
 
 pub record Row : Type 0 where
   pub asked : Asked

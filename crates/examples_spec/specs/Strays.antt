@@ -1,11 +1,11 @@
 -- 'Where programs stray' of 01, with the rounding of ticket 3 of 02: fields at which a program that strays gives something else, by the
 -- definitions that Reconstruct's contract cites; and what E2 gives with each share rounded alone. Assumes nothing.
-use Rattle.std.specs.Prelude.{◌≡◌, refl, List, [], ◌∷◌, map, ℕ, ◌+◌, ◌*◌, pos, negsuc, nat_abs, replicate}
+use Rattle.std.specs.Prelude.{Ok, ◌≡◌, refl, List, [], ◌∷◌, map, ℕ, ◌+◌, ◌*◌, pos, negsuc, nat_abs, replicate}
 use Rattle.numbers.specs.Sums.{ℕ_adds, sum_to}
 use Rattle.numbers.specs.Lists.{list_to}
 use Rattle.numbers.specs.Signed.{min_ℤ, max_ℤ}
 use Rattle.numbers.specs.Quota.{quota}
-use Rattle.numbers.specs.Checks.{Answered, accepted, answered, after, each_from, first_from, check_count}
+use Rattle.numbers.specs.Checks.{Answered, answered, after, each_from, first_from, check_count}
 use Rattle.caas_spec.specs.Group.{Group, sum_in}
 use Rattle.caas_spec.specs.Split.{clip, clipped, deficit, capacity, portion, first_share, remainder, left, second_share, shares, result, all_capacity}
 use Rattle.caas_spec.specs.Operation.{item_group, split_deficit}
@@ -41,10 +41,10 @@ equal M = e4 M (2 ∷ 2 ∷ 2 ∷ [])
 
 abbrev pub rows : List Row
 rows =
-    record { given = flat; told = accepted (record { outcome = 0; total = 16; change = 4; shared = 1 }); masses = 0 ∷ 8 ∷ 3 ∷ 5 ∷ [] }
-    ∷ record { given = clipping; told = accepted (record { outcome = 0; total = 8; change = 8; shared = 4 }); masses = 0 ∷ 2 ∷ 6 ∷ [] }
-    ∷ record { given = equal 8; told = accepted (record { outcome = 0; total = 8; change = 0; shared = 0 }); masses = 3 ∷ 5 ∷ [] }
-    ∷ record { given = equal 10; told = accepted (record { outcome = 0; total = 10; change = 2; shared = 2 }); masses = 4 ∷ 6 ∷ [] }
+    record { given = flat; told = Ok (record { outcome = 0; total = 16; change = 4; shared = 1 }); masses = 0 ∷ 8 ∷ 3 ∷ 5 ∷ [] }
+    ∷ record { given = clipping; told = Ok (record { outcome = 0; total = 8; change = 8; shared = 4 }); masses = 0 ∷ 2 ∷ 6 ∷ [] }
+    ∷ record { given = equal 8; told = Ok (record { outcome = 0; total = 8; change = 0; shared = 0 }); masses = 3 ∷ 5 ∷ [] }
+    ∷ record { given = equal 10; told = Ok (record { outcome = 0; total = 10; change = 2; shared = 2 }); masses = 4 ∷ 6 ∷ [] }
     ∷ []
 
 abbrev pub got : Row → Row

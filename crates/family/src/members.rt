@@ -1,6 +1,5 @@
 // The members of a family.
-ghost use Rattle.std.specs.Prelude.{◌≡◌, not, ◌≤◌, ◌<◌, eqb};
-ghost use Rattle.numbers.specs.Sums.{ℕ_adds, pick};
+ghost use Rattle.std.specs.Prelude.{◌≡◌, ◌≤◌, ◌<◌};
 ghost use Rattle.family_spec.specs.Family.{open_with, member_at, put, begun, others};
 
 use family_spec::{Family, Member};
@@ -35,29 +34,12 @@ pub fn with_total(family: Family, i: u32, total: u32) -> Family
     requires { i < 8 }
     ensures { result ≡ put family i (open_with total) }
 {
-    let mut members = family.members;
-    members[i as usize] = Member {
+    let mut given = family;
+    given.members[i as usize] = Member {
         opened: true,
         total,
     };
-    Family {
-        cap: family.cap,
-        scale: family.scale,
-        cells: family.cells,
-        members,
-        waiting: family.waiting,
-        from: family.from,
-    }
-}
-
-// The total of member j, or 0 if it is i.
-fn total_beside(m: Member, j: u32, i: u32) -> u64
-    ensures { (result ≡ pick ℕ_adds (not (eqb j i)) m.total) × (result ≤ 4294967295) }
-{
-    if j == i {
-        return 0;
-    }
-    m.total as u64
+    given
 }
 
 // The sum of the totals of all members but i.
@@ -65,11 +47,10 @@ pub fn others_of(family: Family, i: u32) -> u64
     ensures { (result ≡ others family i) × (result ≤ 34359738360) }
 {
     let mut sum: u64 = 0;
-    let mut j: u32 = 0;
-    while j < 8 {
-        let m = member_at(family, j);
-        sum += total_beside(m, j, i);
-        j += 1;
+    for (j, member) in family.members.iter().enumerate() {
+        if j != i as usize {
+            sum += u64::from(member.total);
+        }
     }
     sum
 }

@@ -1,53 +1,53 @@
-// What a call gives, by its verdict or by what its step told.
-ghost use Rattle.std.specs.Prelude.{◌≡◌, ◌<◌};
-ghost use Rattle.kept_spec.specs.Step.{step_tells};
-ghost use Rattle.family_spec.specs.Operations.{open_member_verdict, OpenMemberContract, taken};
+// What an opening and a step answer and leave, by the family's verdict.
+ghost use Rattle.qlt_spec.specs.Field.{lists_of};
+ghost use Rattle.kept_spec.specs.Open.{OpenBy};
+ghost use Rattle.kept_spec.specs.Step.{StepBy};
+ghost use Rattle.family_spec.specs.Family.{member_at, terms};
+ghost use Rattle.family_spec.specs.Member.{step_inputs, call_of};
+ghost use Rattle.family_spec.specs.Operations.{open_member_verdict, step_member_verdict};
 
-use crate::members::with_total;
-use family_spec::{Family, FamilyOpened};
-use kept_spec::{Balance, Opened, Stepped};
-use numbers::Checked;
-use numbers::arith::narrow;
+use crate::members::member_at;
+use crate::verdict::{check_source, check_stepping, opening_verdict};
+use family_spec::Family;
+use kept::extended::step_with;
+use kept_spec::{Balance, Stepped};
+use numbers::Refusal;
 use numbers::lists::sum_of;
+use qlt_spec::FieldLists;
 
-// What an opening gives: a refused one the family as it came.
-pub fn open_by(
-    verdict: Checked,
-    family: Family,
-    member: u32,
-    kept: &[u32],
-    scale: u32,
-) -> FamilyOpened
-    requires { verdict ≡ open_member_verdict family member kept.now scale }
-    ensures { OpenMemberContract family member kept.now scale result }
+// The balance that a member is opened with.
+pub fn opened(family: Family, member: u32, kept: &[u32], scale: u32) -> Result<Balance, Refusal>
+    ensures { OpenBy (open_member_verdict family member kept.now scale) kept.now scale result }
 {
-    if let Checked::Fail { number, place } = verdict {
-        return FamilyOpened {
-            family,
-            answer: Opened::Refused { number, place },
-        };
-    }
-    let total = narrow(sum_of(kept));
-    FamilyOpened {
-        family: with_total(family, member, total),
-        answer: Opened::Accepted(Balance { total, scale }),
-    }
+    opening_verdict(family, member, kept, scale)?;
+    let total = sum_of(kept) as u32;
+    Ok(Balance { total, scale })
 }
 
-// The family after a step: it takes over the total of an accepted one.
-pub fn take(family: Family, member: u32, answer: Stepped) -> Family
-    requires { member < 8 }
-    ensures { result ≡ taken family member (step_tells answer) }
+// The step of the balance that the family holds; a refused one writes no list.
+pub fn stepped(
+    family: Family,
+    member: u32,
+    kept: &mut [u32],
+    source: i32,
+    scale: u32,
+    field: &FieldLists,
+    scratch: &mut [i64],
+    book: &mut [u8],
+    told: usize,
+) -> Result<Stepped, Refusal>
+    ensures { let x = step_inputs kept.old source scale (lists_of field.now) scratch.old book.old told in
+        StepBy (step_member_verdict family member x) (call_of (terms family) (member_at family member) x)
+        result kept.new scratch.new book.new }
 {
-    match answer {
-        Stepped::Accepted {
-            repair: _,
-            balance,
-            length: _,
-        } => with_total(family, member, balance.total),
-        Stepped::Refused {
-            number: _,
-            place: _,
-        } => family,
-    }
+    check_stepping(family, member, field.targets.len())?;
+    let stands = member_at(family, member);
+    let within = check_source(family, member, source);
+    let balance = Balance {
+        total: stands.total,
+        scale: family.scale,
+    };
+    step_with(
+        within, balance, kept, source, scale, field, scratch, book, told,
+    )
 }

@@ -1,13 +1,15 @@
 -- From an operation's contract to what its call returns and writes, accepted or refused. Assumes nothing.
+use Rattle.std.specs.Prelude.{Ok, Err}
 use mathlib.Core.Path.{◌≡◌, sym, ◌∙◌, ap, subst}
+use Rattle.family_spec.specs.declared.FamilyAnswer.{FamilyAnswer}
+use Rattle.kept_spec.specs.declared.Stepped.{Stepped}
 use mathlib.Core.List.{List, [], ◌∷◌}
-use Prim.Native.Nat.{ℕ, ◌+◌, ◌*◌, ◌≤◌, ◌<◌, ◌^◌}
+use Prim.Native.Nat.{ℕ, ◌≤◌}
 use lib.IntN.{ℤ}
 use lib.ListN.{length}
-use Rattle.numbers.specs.declared.Checked.{Checked}
-use Rattle.numbers.specs.declared.Checked.TheVariants.{Pass, Fail}
+use Rattle.numbers.specs.declared.Refusal.{Refusal}
 use Rattle.numbers.specs.Lists.{sum, written}
-use Rattle.numbers.specs.Checks.{after, both, first, check_count, check_long}
+use Rattle.numbers.specs.Checks.{Checked, Answered, after, both, first, check_count, check_long}
 use Rattle.numbers.proofs.CheckLaws.{answered-accepted, answered-refused, after-pass, after-fail, both_first, both-second, long-decides}
 use Rattle.qlt_spec.specs.declared.Repair.{Repair}
 use Rattle.qlt_spec.specs.Field.{cells, nodes}
@@ -16,58 +18,52 @@ use Rattle.qlt_spec.specs.Operation.{Leaves}
 use Rattle.qlt_spec.proofs.OperationLaws.{leaves-refused}
 use Rattle.book_spec.specs.LentBook.{grown_buffer}
 use Rattle.kept_spec.specs.declared.Balance.{Balance}
-use Rattle.kept_spec.specs.declared.Opened.TheVariants as opened
-use Rattle.kept_spec.specs.declared.Stepped.TheVariants as stepped
-use Rattle.kept_spec.specs.Open.{open_balance, open_tells}
-use Rattle.kept_spec.specs.Step.{StepCall, Typed, new_total, repair_call, step_result, step_tells, step_entry}
+use Rattle.kept_spec.specs.Open.{open_balance}
+use Rattle.kept_spec.specs.Step.{StepCall, Typed, new_total, repair_call, step_result, step_entry}
 use Rattle.family_spec.specs.declared.Family.{Family}
-use Rattle.family_spec.specs.declared.Started.TheVariants.{Done, Refused}
-use Rattle.family_spec.specs.declared.FamilyStarted.{FamilyStarted}
-use Rattle.family_spec.specs.declared.FamilyOpened.{FamilyOpened}
-use Rattle.family_spec.specs.declared.FamilyStepped.{FamilyStepped}
 use Rattle.family_spec.specs.Family.{open_with, member_at, put, begun, terms}
 use Rattle.family_spec.specs.Member.{check_opened, check_same_cells, StepInputs, call_of}
-use Rattle.family_spec.specs.Operations.{start_verdict, start_tells, StartContract, open_member_verdict, OpenMemberContract, step_member_verdict, StepMemberContract}
+use Rattle.family_spec.specs.Operations.{start_verdict, StartContract, open_member_verdict, OpenMemberContract, step_member_verdict, StepMemberContract}
 use Rattle.call_values.specs.Values.{returned, open_values, balance_words, step_values, result_words}
-use Rattle.call_values.proofs.ValueLaws.{returned-pass, returned-fail, room, no_room, first-last}
+use Rattle.call_values.proofs.ValueLaws.{room, room-refused, first-last}
 use Rattle.family_calls.specs.List.{family_entries, family_words, family_in}
 use Rattle.family_calls.specs.Calls.{call_room, start_call_verdict, FamilyStartReturns, open_call_verdict, FamilyOpenReturns, step_call_verdict, FamilyStepReturns}
 
 -- ---- start
 
 module _ (cap scale n : ℕ) (family : List ℕ) where
-  pub start-no-room : length family < family_entries → FamilyStartReturns cap scale n family 3 family
+  pub start-no-room : {refusal : Refusal} → check_long (length family) family_entries ≡ Err refusal → FamilyStartReturns cap scale n family (returned (Err refusal)) family
   unfolding start_call_verdict
   start-no-room h =
-      let v = no_room (length family) family_entries (start_verdict scale n) h in
+      let v = room-refused (length family) family_entries (start_verdict scale n) h in
       record { returns = ap returned (sym v); gives = after-fail _ family v }
 
-  module _ (a : FamilyStarted) (p : StartContract cap scale n a) (h : family_entries ≤ length family) where
-    pub start-done : {r : ℕ} {family' : List ℕ} → a.answer ≡ Done → r ≡ 0 → family' ≡ written family 0 (family_words a.family) → FamilyStartReturns cap scale n family r family'
-    unfolding start_tells start_call_verdict
-    start-done e z w =
-        let t = (answered-accepted (start_verdict scale n) tt tt (ap start_tells (sym e) ∙ p.answers)).0 in
+  module _ (a : FamilyAnswer Checked) (p : StartContract cap scale n a) (h : family_entries ≤ length family) where
+    pub start-done : {family' : List ℕ} → a.answer ≡ Ok tt → family' ≡ written family 0 (family_words a.family) → FamilyStartReturns cap scale n family 0 family'
+    unfolding start_call_verdict
+    start-done e w =
+        let t = (answered-accepted (start_verdict scale n) tt tt (sym e ∙ p.answers)).0 in
         let v = room (length family) family_entries (start_verdict scale n) h ∙ t in
         record {
-          returns = returned-pass v z;
+          returns = ap returned (sym v);
           gives = after-pass family v (w ∙ ap (λ f. written family 0 (family_words f)) (p.gives ∙ ap (λ u. after u (begun cap scale n) (begun 0 0 0)) t));
         }
 
-    pub start-refused : {r number place : ℕ} → a.answer ≡ Refused number place → r ≡ number + place * 2 ^ 32 → FamilyStartReturns cap scale n family r family
-    unfolding start_tells start_call_verdict
-    start-refused {number = number} {place = place} e z =
-        let v = room (length family) family_entries (start_verdict scale n) h ∙ answered-refused (start_verdict scale n) tt number place (ap start_tells (sym e) ∙ p.answers) in
-        record { returns = returned-fail v z; gives = after-fail _ family v }
+    pub start-refused : {refusal : Refusal} → a.answer ≡ Err refusal → FamilyStartReturns cap scale n family (returned (Err refusal)) family
+    unfolding start_call_verdict
+    start-refused e =
+        let v = room (length family) family_entries (start_verdict scale n) h ∙ answered-refused (start_verdict scale n) tt _ _ (sym e ∙ p.answers) in
+        record { returns = ap returned (sym v); gives = after-fail _ family v }
 
 -- ---- open
 
 -- the lists of a call with room are long enough
-module _ (family answer : List ℕ) (values : ℕ) (e : call_room family answer values ≡ Pass) where
+module _ (family answer : List ℕ) (values : ℕ) (e : call_room family answer values ≡ Ok tt) where
   pub room-family : family_entries ≤ length family
   room-family = (long-decides (length family) family_entries).passes.0 (both_first (check_long (length family) family_entries) _ e)
 
   pub room-answer : values ≤ length answer
-  room-answer = (long-decides (length answer) values).passes.0 (both_first _ Pass (both-second (check_long (length family) family_entries) _ e))
+  room-answer = (long-decides (length answer) values).passes.0 (both_first _ (Ok tt) (both-second (check_long (length family) family_entries) _ e))
 
 module _ (family : List ℕ) (i : ℕ) (kept : List ℕ) (k : ℕ) (answer : List ℕ) where
   abbrev f : Family
@@ -77,34 +73,32 @@ module _ (family : List ℕ) (i : ℕ) (kept : List ℕ) (k : ℕ) (answer : Lis
   unfolding open_call_verdict
   open-chain = first-last (check_long (length family) family_entries ∷ check_long (length answer) open_values ∷ []) (open_member_verdict f i kept k)
 
-  pub open-room-refused : {r number place : ℕ} → call_room family answer open_values ≡ Fail number place → r ≡ number + place * 2 ^ 32 → FamilyOpenReturns family i kept k answer r family answer
-  open-room-refused e z =
+  pub open-room-refused : {refusal : Refusal} → call_room family answer open_values ≡ Err refusal → FamilyOpenReturns family i kept k answer (returned (Err refusal)) family answer
+  open-room-refused e =
       let v = open-chain ∙ ap (λ w. both w (open_member_verdict f i kept k)) e in
-      record { returns = returned-fail v z; gives = after-fail _ family v; writes = after-fail _ answer v }
+      record { returns = ap returned (sym v); gives = after-fail _ family v; writes = after-fail _ answer v }
 
-  module _ (e : call_room family answer open_values ≡ Pass) where
+  module _ (e : call_room family answer open_values ≡ Ok tt) where
     open-past : open_call_verdict family i kept k answer ≡ open_member_verdict f i kept k
     open-past = open-chain ∙ ap (λ w. both w (open_member_verdict f i kept k)) e
 
-    module _ (a : FamilyOpened) (p : OpenMemberContract f i kept k a) where
+    module _ (a : FamilyAnswer (Answered Balance)) (p : OpenMemberContract f i kept k a) where
       pub open_done :
-          {b : Balance} {r : ℕ} {family' answer' : List ℕ} → a.answer ≡ opened.Accepted b → family' ≡ written family 0 (family_words a.family) → r ≡ 0
-          → answer' ≡ written answer 0 (balance_words b) → FamilyOpenReturns family i kept k answer r family' answer'
-      unfolding open_tells
-      open_done {b} s u z w =
-          let t = answered-accepted (open_member_verdict f i kept k) b (open_balance kept k) (ap open_tells (sym s) ∙ p.tells.answers) in
+          {b : Balance} {family' answer' : List ℕ} → a.answer ≡ Ok b → family' ≡ written family 0 (family_words a.family)
+          → answer' ≡ written answer 0 (balance_words b) → FamilyOpenReturns family i kept k answer 0 family' answer'
+      open_done {b} s u w =
+          let t = answered-accepted (open_member_verdict f i kept k) b (open_balance kept k) (sym s ∙ p.tells.answers) in
           let v = open-past ∙ t.0 in
           record {
-            returns = returned-pass v z;
+            returns = ap returned (sym v);
             gives = after-pass family v (u ∙ ap (λ g. written family 0 (family_words g)) (p.gives ∙ ap (λ y. after y (put f i (open_with (sum kept))) f) t.0));
             writes = after-pass answer v (w ∙ ap (λ y. written answer 0 (balance_words y)) t.1);
           }
 
-      pub open-refused : {r number place : ℕ} → a.answer ≡ opened.Refused number place → r ≡ number + place * 2 ^ 32 → FamilyOpenReturns family i kept k answer r family answer
-      unfolding open_tells
-      open-refused {number = number} {place = place} s z =
-          let v = open-past ∙ answered-refused (open_member_verdict f i kept k) (open_balance kept k) number place (ap open_tells (sym s) ∙ p.tells.answers) in
-          record { returns = returned-fail v z; gives = after-fail _ family v; writes = after-fail _ answer v }
+      pub open-refused : {refusal : Refusal} → a.answer ≡ Err refusal → FamilyOpenReturns family i kept k answer (returned (Err refusal)) family answer
+      open-refused s =
+          let v = open-past ∙ answered-refused (open_member_verdict f i kept k) (open_balance kept k) _ _ (sym s ∙ p.tells.answers) in
+          record { returns = ap returned (sym v); gives = after-fail _ family v; writes = after-fail _ answer v }
 
 -- ---- step
 
@@ -141,27 +135,27 @@ module _ (family : List ℕ) (i : ℕ) (x : StepInputs) (answer : List ℕ) wher
       (step_member_verdict g i x)
 
   pub step-room-refused :
-      {r number place : ℕ} → Typed c → step_room family i x answer ≡ Fail number place → r ≡ number + place * 2 ^ 32
-      → FamilyStepReturns family i x answer r family x.kept x.scratch x.book answer
-  step-room-refused y e z =
+      {refusal : Refusal} → Typed c → step_room family i x answer ≡ Err refusal
+      → FamilyStepReturns family i x answer (returned (Err refusal)) family x.kept x.scratch x.book answer
+  step-room-refused y e =
       let v = step-chain ∙ ap (λ w. both w (step_member_verdict g i x)) e in
       record {
         typed = y;
-        returns = returned-fail v z;
+        returns = ap returned (sym v);
         gives = after-fail _ family v;
         leaves = leaves-refused (repair_call c) v;
         files = after-fail _ x.book v;
         writes = after-fail _ answer v;
       }
 
-  module _ (e : step_room family i x answer ≡ Pass) where
+  module _ (e : step_room family i x answer ≡ Ok tt) where
     pub step-family : family_entries ≤ length family
     step-family = (long-decides (length family) family_entries).passes.0 (both_first (check_long (length family) family_entries) _ e)
 
     pub step-answer : step_values ≤ length answer
     step-answer =
         (long-decides (length answer) step_values).passes.0
-        (both_first _ Pass
+        (both_first _ (Ok tt)
         (both-second (check_nodes (cells x.lists) (nodes x.lists)) _
         (both-second (check_count (cells x.lists)) _
         (both-second (check_same_cells (cells x.lists) g.cells) _
@@ -170,7 +164,7 @@ module _ (family : List ℕ) (i : ℕ) (x : StepInputs) (answer : List ℕ) wher
     step_past : step_call_verdict family i x answer ≡ step_member_verdict g i x
     step_past = step-chain ∙ ap (λ w. both w (step_member_verdict g i x)) e
 
-    module _ (a : FamilyStepped) {kept : List ℕ} {scratch : List ℤ} {book : List ℕ} (p : StepMemberContract g i x a kept scratch book) where
+    module _ (a : FamilyAnswer (Answered Stepped)) {kept : List ℕ} {scratch : List ℤ} {book : List ℕ} (p : StepMemberContract g i x a kept scratch book) where
       leaves-on : Leaves (step_call_verdict family i x answer) (repair_call c) kept scratch
       leaves-on = subst (λ v. Leaves v (repair_call c) kept scratch) (sym step_past) p.tells.tells.leaves
 
@@ -178,15 +172,14 @@ module _ (family : List ℕ) (i : ℕ) (x : StepInputs) (answer : List ℕ) wher
       files-on = p.tells.files ∙ ap (λ v. after v (grown_buffer x.book x.length (step_entry c)) x.book) (sym step_past)
 
       pub step-done :
-          {y : Repair} {b : Balance} {l r : ℕ} {family' answer' : List ℕ} → a.answer ≡ stepped.Accepted y b l → family' ≡ written family 0 (family_words a.family) → r ≡ 0
-          → answer' ≡ written answer 0 (result_words y l) → FamilyStepReturns family i x answer r family' kept scratch book answer'
-      unfolding step_tells
-      step-done {y} {b} {l} s u z w =
-          let t = answered-accepted (step_member_verdict g i x) (record { repair = y; balance = b; length = l }) (step_result c) (ap step_tells (sym s) ∙ p.tells.tells.answers) in
+          {y : Repair} {b : Balance} {l : ℕ} {family' answer' : List ℕ} → a.answer ≡ Ok (record { repair = y; balance = b; length = l }) → family' ≡ written family 0 (family_words a.family)
+          → answer' ≡ written answer 0 (result_words y l) → FamilyStepReturns family i x answer 0 family' kept scratch book answer'
+      step-done {y} {b} {l} s u w =
+          let t = answered-accepted (step_member_verdict g i x) (record { repair = y; balance = b; length = l }) (step_result c) (sym s ∙ p.tells.tells.answers) in
           let v = step_past ∙ t.0 in
           record {
             typed = p.tells.typed;
-            returns = returned-pass v z;
+            returns = ap returned (sym v);
             gives = after-pass family v (u ∙ ap (λ q. written family 0 (family_words q)) (p.gives ∙ ap (λ q. after q (put g i (open_with (new_total c))) g) t.0));
             leaves = leaves-on;
             files = files-on;
@@ -194,8 +187,7 @@ module _ (family : List ℕ) (i : ℕ) (x : StepInputs) (answer : List ℕ) wher
           }
 
       pub step-refused :
-          {r number place : ℕ} → a.answer ≡ stepped.Refused number place → r ≡ number + place * 2 ^ 32 → FamilyStepReturns family i x answer r family kept scratch book answer
-      unfolding step_tells
-      step-refused {number = number} {place = place} s z =
-          let v = step_past ∙ answered-refused (step_member_verdict g i x) (step_result c) number place (ap step_tells (sym s) ∙ p.tells.tells.answers) in
-          record { typed = p.tells.typed; returns = returned-fail v z; gives = after-fail _ family v; leaves = leaves-on; files = files-on; writes = after-fail _ answer v }
+          {refusal : Refusal} → a.answer ≡ Err refusal → FamilyStepReturns family i x answer (returned (Err refusal)) family kept scratch book answer
+      step-refused s =
+          let v = step_past ∙ answered-refused (step_member_verdict g i x) (step_result c) _ _ (sym s ∙ p.tells.tells.answers) in
+          record { typed = p.tells.typed; returns = ap returned (sym v); gives = after-fail _ family v; leaves = leaves-on; files = files-on; writes = after-fail _ answer v }

@@ -1,16 +1,16 @@
 -- The calls from C on a family: what each returns and leaves in the lists lent to it. A list for the family with fewer than 21 entries is refused
 -- with 3, before all else. Assumes nothing.
 use Rattle.std.specs.Prelude.{◌≡◌, List, [], ◌∷◌, ℕ, ℤ, length}
-use Rattle.numbers.specs.declared.Checked.{Checked}
+use Rattle.kept_spec.specs.declared.Stepped.{Stepped}
 use Rattle.numbers.specs.Lists.{sum, written}
-use Rattle.numbers.specs.Checks.{Answered, after, first, check_count, check_long}
+use Rattle.numbers.specs.Checks.{Checked, Answered, after, first, check_count, check_long}
 use Rattle.qlt_spec.specs.Field.{cells, nodes}
 use Rattle.qlt_spec.specs.Checks.{check_nodes}
 use Rattle.qlt_spec.specs.Operation.{repair, Leaves}
 use Rattle.book_spec.specs.LentBook.{grown_buffer, grown_length}
 use Rattle.kept_spec.specs.declared.Balance.{Balance}
 use Rattle.kept_spec.specs.Open.{open_balance}
-use Rattle.kept_spec.specs.Step.{Typed, new_total, repair_call, StepResult, step_entry}
+use Rattle.kept_spec.specs.Step.{Typed, new_total, repair_call, step_entry}
 use Rattle.family_spec.specs.Family.{open_with, member_at, put, begun, terms}
 use Rattle.family_spec.specs.Member.{check_opened, check_same_cells, StepInputs, call_of}
 use Rattle.family_spec.specs.Operations.{start_verdict, open_member_verdict, step_member_verdict}
@@ -77,5 +77,5 @@ pub record FamilyStepReturns (family : List ℕ) (i : ℕ) (x : StepInputs) (ans
 abbrev pub open_told : ℕ → List ℕ → Answered Balance
 open_told r answer' = told_by r (balance_in answer')
 
-abbrev pub step_told : List ℕ → ℕ → StepInputs → ℕ → List ℕ → Answered StepResult
+abbrev pub step_told : List ℕ → ℕ → StepInputs → ℕ → List ℕ → Answered Stepped
 step_told family i x r answer' = told_by r (result_in (call_of (terms (family_in family)) (member_at (family_in family) i) x) answer')

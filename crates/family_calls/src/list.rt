@@ -4,7 +4,6 @@ ghost use Rattle.std.specs.Prelude.{◌≡◌, ◌+◌, ◌%◌, ◌≤◌, ◌^
 ghost use Rattle.numbers.specs.Lists.{written};
 ghost use Rattle.family_calls.specs.List.{family_entries, flag, member_words, members_words, family_words, member_in, family_in};
 
-use family::members::member_at;
 use family_spec::{Family, Member};
 
 // The entries; `family_entries` in specs/.
@@ -54,7 +53,7 @@ pub fn read_family(list: &[u64]) -> Family
 fn entry(opened: bool) -> u64
     ensures { result ≡ flag opened }
 {
-    if opened { 1 } else { 0 }
+    u64::from(opened)
 }
 
 // Puts a member's entries at a place.
@@ -63,7 +62,7 @@ fn put_member(m: Member, list: &mut [u64], at: usize)
     ensures { list.new ≡ written list.old at (member_words m) }
 {
     list[at] = entry(m.opened);
-    list[at + 1] = m.total as u64;
+    list[at + 1] = u64::from(m.total);
 }
 
 // Puts the entries of every member.
@@ -71,24 +70,20 @@ fn put_members(family: Family, list: &mut [u64])
     requires { family_entries ≤ length list.old }
     ensures { list.new ≡ written list.old 3 (members_words family 8) }
 {
-    let mut i: u32 = 0;
-    while i < 8 {
-        let m = member_at(family, i);
-        put_member(m, list, 3 + 2 * i as usize);
-        i += 1;
+    for (i, m) in family.members.iter().enumerate() {
+        put_member(*m, list, 3 + 2 * i);
     }
 }
 
-// Puts a family into the first entries and returns 0.
-pub fn put_family(family: Family, list: &mut [u64]) -> u64
+// Puts a family into the first entries.
+pub fn put_family(family: Family, list: &mut [u64])
     requires { family_entries ≤ length list.old }
-    ensures { (result ≡ 0) × (list.new ≡ written list.old 0 (family_words family)) }
+    ensures { list.new ≡ written list.old 0 (family_words family) }
 {
     list[0] = family.cap;
-    list[1] = family.scale as u64;
-    list[2] = family.cells as u64;
+    list[1] = u64::from(family.scale);
+    list[2] = u64::from(family.cells);
     put_members(family, list);
-    list[19] = family.waiting as u64;
-    list[20] = family.from as u64;
-    0
+    list[19] = u64::from(family.waiting);
+    list[20] = u64::from(family.from);
 }

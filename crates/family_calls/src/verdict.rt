@@ -10,20 +10,25 @@ ghost use Rattle.family_calls.specs.List.{family_entries, family_in};
 use crate::list::{FAMILY_ENTRIES, read_family};
 use call_values::values::step_shape;
 use family::verdict::check_stepping;
-use numbers::Checked;
-use numbers::checks::{check_long, then};
+use numbers::Refusal;
+use numbers::checks::check_long;
 
 // Under 3 the list of the family, and the list for the values that a call gives.
-pub fn call_room(family: usize, answer: usize, values: usize) -> Checked
+pub fn call_room(family: usize, answer: usize, values: usize) -> Result<(), Refusal>
     ensures { result ≡ first (check_long family family_entries ∷ check_long answer values ∷ []) }
 {
-    let family_fits = check_long(family, FAMILY_ENTRIES);
-    let answer_fits = check_long(answer, values);
-    then(family_fits, answer_fits)
+    check_long(family, FAMILY_ENTRIES)?;
+    check_long(answer, values)
 }
 
 // Under 3 the list of the family; 19; 1, of another n too; 2; under 3 the list for a step's values.
-pub fn step_room(family: &[u64], member: u32, cells: usize, nodes: usize, answer: usize) -> Checked
+pub fn step_room(
+    family: &[u64],
+    member: u32,
+    cells: usize,
+    nodes: usize,
+    answer: usize,
+) -> Result<(), Refusal>
     ensures { result ≡ first
         (check_long (length family.now) family_entries
         ∷ check_opened member (member_at (family_in family.now) member)
@@ -33,11 +38,7 @@ pub fn step_room(family: &[u64], member: u32, cells: usize, nodes: usize, answer
         ∷ check_long answer step_values
         ∷ []) }
 {
-    let family_fits = check_long(family.len(), FAMILY_ENTRIES);
-    if let Checked::Fail { number, place } = family_fits {
-        return Checked::Fail { number, place };
-    }
-    let own = check_stepping(read_family(family), member, cells);
-    let shape = step_shape(cells, nodes, answer);
-    then(own, shape)
+    check_long(family.len(), FAMILY_ENTRIES)?;
+    check_stepping(read_family(family), member, cells)?;
+    step_shape(cells, nodes, answer)
 }

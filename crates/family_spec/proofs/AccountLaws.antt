@@ -1,5 +1,6 @@
 -- Each member keeps the whole account of its own run: a member's history holds a run of Step with its book, and demand 3 and the account of the book
 -- are its account. Assumes nothing.
+use Rattle.std.specs.Prelude.{Ok, Err}
 use mathlib.Core.Path.{◌≡◌, refl, sym, ◌∙◌, ap, subst}
 use mathlib.Core.Logic.{◌⊎◌, inl, ⊎_elim}
 use mathlib.Core.Bool.{true, false}
@@ -8,10 +9,8 @@ use Prim.Native.Nat.{ℕ, ◌*◌}
 use lib.Dec.{eqb}
 use lib.IntN.{ℤ}
 use borrow.Author.Tests.{eqb-true, eq-eqb}
-use Rattle.numbers.specs.declared.Checked.{Checked}
-use Rattle.numbers.specs.declared.Checked.TheVariants.{Pass, Fail}
 use Rattle.numbers.specs.Lists.{sum, written}
-use Rattle.numbers.specs.Checks.{Answered, accepted, answered, after, OneOf, refused}
+use Rattle.numbers.specs.Checks.{Checked, Answered, answered, after, OneOf, refused}
 use Rattle.numbers.proofs.TestLaws.{Tested, holds, fails, tested, not_so, clash, and_first, and_second, and_intro}
 use Rattle.numbers.proofs.CheckLaws.{stop, answered-accepted}
 use Rattle.numbers.proofs.ChainLaws.{Verdict, passed, failed, verdict, fails-number, no_number}
@@ -19,14 +18,12 @@ use Rattle.qlt_spec.specs.Field.{nodes, scratch_per_node, field}
 use Rattle.qlt_spec.specs.Masses.{tree_masses}
 use Rattle.qlt_spec.specs.Operation.{cleared}
 use Rattle.book_spec.specs.LentBook.{grown_buffer, grown_length}
-use Rattle.book_spec.specs.StartBook.{book_start_tells, book_start_verdict}
+use Rattle.book_spec.specs.StartBook.{book_start_verdict}
 use Rattle.book_spec.specs.Book.{book_bytes}
 use Rattle.kept_spec.specs.declared.Balance.{Balance}
-use Rattle.kept_spec.specs.declared.Opened.{Opened}
-use Rattle.kept_spec.specs.declared.Opened.TheVariants.{Accepted}
 use Rattle.kept_spec.specs.declared.Stepped.{Stepped}
-use Rattle.kept_spec.specs.Open.{open_verdict, open_balance, open_tells}
-use Rattle.kept_spec.specs.Step.{StepCall, new_total, step_verdict, step_result, step_tells, step_entry, Typed}
+use Rattle.kept_spec.specs.Open.{open_verdict, open_balance}
+use Rattle.kept_spec.specs.Step.{StepCall, new_total, step_verdict, step_result, step_entry, Typed}
 use Rattle.kept_spec.specs.Run.{Run, collect}
 use Rattle.kept_spec.specs.Account.{Event, Accepts, balance_after, Promised, Moves, Account}
 use Rattle.kept_spec.specs.BookRun.{Act, Ledger, ledger, LedgerMoves, Lent, length_after, StartEvent, book_after, BookAccount, steps_in, standing_of}
@@ -34,7 +31,6 @@ use Rattle.kept_spec.proofs.RunLaws.{run-append}
 use Rattle.kept_spec.proofs.StepLaws.{step-decides, step-numbers}
 use Rattle.kept_spec.proofs.BookLaws.{book-demand3, ledger-always-moves}
 use Rattle.family_spec.specs.declared.Member.{Member}
-use Rattle.family_spec.specs.declared.Registered.{Registered}
 use Rattle.family_spec.specs.Family.{open_with, member_at, Terms, terms}
 use Rattle.family_spec.specs.Member.{opening_verdict, StepInputs, call_of, stepping_verdict}
 use Rattle.family_spec.specs.History.{FamilyEvent, FamilyStanding, FamilyMoves, only, MemberEvent, stepping, opened, stepped, Held, held, tells_by, holds_by, MemberMoves, balance_told, opening_of, same, act_of, openings_of, steps_of, LentWhole, started, acts_of}
@@ -48,19 +44,19 @@ use Rattle.book_spec.specs.Book as book_of
 
 same-means : (u v : Checked) → same u v ≡ true → u ≡ v
 unfolding same
-same-means Pass Pass e = refl
-same-means Pass (Fail n p) e = absurd (clash e refl)
-same-means (Fail n p) Pass e = absurd (clash e refl)
-same-means (Fail n p) (Fail m q) e =
-    let a = eqb-true n m (and_first (eqb n m) (eqb p q) e) in
-    let b = eqb-true p q (and_second (eqb n m) (eqb p q) e) in
-    λ x. Fail (a x) (b x)
+same-means (Ok u) (Ok w) e = refl
+same-means (Ok tt) (Err r) e = absurd (clash e refl)
+same-means (Err r) (Ok tt) e = absurd (clash e refl)
+same-means (Err r) (Err s) e =
+    let a = eqb-true r.number s.number (and_first (eqb r.number s.number) (eqb r.place s.place) e) in
+    let b = eqb-true r.place s.place (and_second (eqb r.number s.number) (eqb r.place s.place) e) in
+    λ x. refused (a x) (b x)
 
-same-fail : {u v : Checked} {number place : ℕ} → u ≡ Fail number place → v ≡ Fail number place → same u v ≡ true
+same-fail : {u v : Checked} {number place : ℕ} → u ≡ refused number place → v ≡ refused number place → same u v ≡ true
 unfolding same
 same-fail {u} {v} {number} {place} e f = rw (e, f) (and_intro (eq-eqb number number refl) (eq-eqb place place refl))
 
-same-pass : {u v : Checked} → u ≡ Pass → v ≡ Pass → same u v ≡ true
+same-pass : {u v : Checked} → u ≡ Ok tt → v ≡ Ok tt → same u v ≡ true
 unfolding same
 same-pass {u} {v} e f = rw (e, f) refl
 
@@ -77,15 +73,15 @@ module _ (t : Terms) (i : ℕ) (m : Member) (space : ℤ) (x : StepInputs) where
   theirs = step_verdict c
 
   -- an accepted one does
-  pub counted-pass : mine ≡ Pass → same mine theirs ≡ true
+  pub counted-pass : mine ≡ Ok tt → same mine theirs ≡ true
   counted-pass e = same-pass e (stepping-steps t i m space x e)
 
   -- a refused one does if its number is none of the family's own
-  pub counted : (number place : ℕ) → mine ≡ Fail number place → (SteppingOwn number → ⊥) → same mine theirs ≡ true
+  pub counted : (number place : ℕ) → mine ≡ refused number place → (SteppingOwn number → ⊥) → same mine theirs ≡ true
   counted number place e n = ⊎_elim (λ o. absurd (n o)) (λ b. same-fail e b) (stepping-refused t i m space x number place e)
 
   -- and does not if it is 19 or 20, which Step never refuses with
-  pub uncounted : (number place : ℕ) → mine ≡ Fail number place → (number ≡ 19) ⊎ (number ≡ 20) → same mine theirs ≡ false
+  pub uncounted : (number place : ℕ) → mine ≡ refused number place → (number ≡ 19) ⊎ (number ≡ 20) → same mine theirs ≡ false
   uncounted number place e h =
       not_so (same mine theirs) (λ s. above (step-numbers c number (fails-number (step-decides c) (sym (same-means mine theirs s) ∙ e))))
     where
@@ -94,7 +90,7 @@ module _ (t : Terms) (i : ℕ) (m : Member) (space : ℤ) (x : StepInputs) where
           (λ q. no_number (1 ∷ 2 ∷ 3 ∷ 17 ∷ 4 ∷ 5 ∷ 6 ∷ 7 ∷ 12 ∷ 13 ∷ 8 ∷ 14 ∷ 15 ∷ 16 ∷ 21 ∷ []) 20 refl (subst (OneOf _) q o)) h
 
   -- a member that is not open is told 19
-  closed-step : m.opened ≡ false → mine ≡ Fail 19 0
+  closed-step : m.opened ≡ false → mine ≡ refused 19 0
   unfolding stepping_verdict
   closed-step o = sym (stop _ (((opened-decides i m).fails 19 0).1 (refl, (refl, λ h. clash h.1 o))))
 
@@ -104,7 +100,7 @@ module _ (t : Terms) (i : ℕ) (m : Member) (space : ℤ) (x : StepInputs) where
 abbrev ledger_of : Terms → Held → Ledger
 ledger_of t h = record { kept = h.kept; balance = record { total = h.member.total; scale = t.scale }; book = h.book; length = h.length }
 
-module _ (t : Terms) (i : ℕ) (m : Member) (space : ℤ) (x : StepInputs) (answer : Stepped) (kept : List ℕ) (scratch : List ℤ) (book : List ℕ) where
+module _ (t : Terms) (i : ℕ) (m : Member) (space : ℤ) (x : StepInputs) (answer : Answered Stepped) (kept : List ℕ) (scratch : List ℤ) (book : List ℕ) where
   abbrev v : Checked
   v = stepping_verdict t i m space x
 
@@ -126,8 +122,8 @@ module _ (t : Terms) (i : ℕ) (m : Member) (space : ℤ) (x : StepInputs) (answ
   abbrev own : List Act
   own = only (same v (step_verdict d)) (Act.steps the_step)
 
-  module _ (typed : Typed d) (told-as : stepped (step_tells answer) kept scratch book ≡ stepped (answered v (step_result d)) (after v masses x.kept) (after v clear x.scratch) (after v filed x.book)) where
-    answers : step_tells answer ≡ answered v (step_result d)
+  module _ (typed : Typed d) (told-as : stepped answer kept scratch book ≡ stepped (answered v (step_result d)) (after v masses x.kept) (after v clear x.scratch) (after v filed x.book)) where
+    answers : answer ≡ answered v (step_result d)
     answers = cc
 
     keeps : kept ≡ after v masses x.kept
@@ -152,13 +148,13 @@ module _ (t : Terms) (i : ℕ) (m : Member) (space : ℤ) (x : StepInputs) (answ
         }
 
     -- refused: whatever stands, stands
-    refused-step : {number place : ℕ} → v ≡ Fail number place → (s : Ledger) → Run LedgerMoves s own s
+    refused-step : {number place : ℕ} → v ≡ refused number place → (s : Ledger) → Run LedgerMoves s own s
     refused-step {number} {place} e s = by-test (tested (same v (step_verdict d)))
       where
-        told-refused : step_tells answer ≡ refused number place
+        told-refused : answer ≡ refused number place
         told-refused = answers ∙ ap (λ w. answered w (step_result d)) e
 
-        none : Accepts (step_tells answer) → ⊥
+        none : Accepts answer → ⊥
         none a = subst Accepts told-refused a
 
         stays : Promised the_step → LedgerMoves s (Act.steps the_step) s
@@ -173,7 +169,7 @@ module _ (t : Terms) (i : ℕ) (m : Member) (space : ℤ) (x : StepInputs) (answ
 
     -- accepted: its masses, its new balance and its book stand
     accepted-step :
-        v ≡ Pass → (h : Held) → (Accepts (step_tells answer) → LentWhole x h)
+        v ≡ Ok tt → (h : Held) → (Accepts answer → LentWhole x h)
         → Run LedgerMoves (record { kept = h.kept; balance = d.balance; book = h.book; length = h.length }) own
         (record { kept = masses; balance = (step_result d).balance; book = filed; length = (step_result d).length })
     accepted-step e h lent =
@@ -185,15 +181,15 @@ module _ (t : Terms) (i : ℕ) (m : Member) (space : ℤ) (x : StepInputs) (answ
         (ledger-always-moves (record { kept = h.kept; balance = d.balance; book = h.book; length = h.length }) the_step
         (promised (e ∙ sym (stepping-steps t i m space x e))) w.kept refl w.book w.length) Run.done))
       where
-        told-accepted : step_tells answer ≡ accepted (step_result d)
+        told-accepted : answer ≡ Ok (step_result d)
         told-accepted = answers ∙ ap (λ w. answered w (step_result d)) e
 
-        yes : Accepts (step_tells answer)
+        yes : Accepts answer
         yes = subst Accepts (sym told-accepted) tt
 
         after-it :
             ◌≡◌ {A = Ledger}
-            (record { kept = kept; balance = balance_after (step_tells answer) d.balance; book = book; length = length_after (step_tells answer) h.length })
+            (record { kept = kept; balance = balance_after answer d.balance; book = book; length = length_after answer h.length })
             (record { kept = masses; balance = (step_result d).balance; book = filed; length = (step_result d).length })
         after-it = λ z.
             record {
@@ -209,9 +205,9 @@ opened-parts : {a b : Answered Balance} → opened a ≡ opened b → a ≡ b
 opened-parts e = cc
 
 -- a step that tells what it should, of the member as it stands
-module _ {t : Terms} {i : ℕ} {h h' : Held} {m : Member} {space : ℤ} {x : StepInputs} {answer : Stepped} {kept : List ℕ} {scratch : List ℤ} {book : List ℕ} (p : MemberMoves t i h (MemberEvent.steps m space x answer kept scratch book) h') where
+module _ {t : Terms} {i : ℕ} {h h' : Held} {m : Member} {space : ℤ} {x : StepInputs} {answer : Answered Stepped} {kept : List ℕ} {scratch : List ℤ} {book : List ℕ} (p : MemberMoves t i h (MemberEvent.steps m space x answer kept scratch book) h') where
   told-by :
-      stepped (step_tells answer) kept scratch book
+      stepped answer kept scratch book
       ≡ stepped (answered (v t i m space x answer kept scratch book) (step_result (call_of t m x))) (after (v t i m space x answer kept scratch book) (masses t i m space x answer kept scratch book) x.kept)
       (after (v t i m space x answer kept scratch book) (clear t i m space x answer kept scratch book) x.scratch)
       (after (v t i m space x answer kept scratch book) (filed t i m space x answer kept scratch book) x.book)
@@ -232,12 +228,12 @@ module _ {t : Terms} {i : ℕ} {h h' : Held} {m : Member} {space : ℤ} {x : Ste
   unfolding holds_by
   holds_as w e = p.holds ∙ ap held_by (ap (λ n. stepping_verdict t i n space x) (sym p.given) ∙ e)
 
-  step-refused : {number place : ℕ} → stepping_verdict t i m space x ≡ Fail number place → (h' ≡ h) × ((s : Ledger) → Run LedgerMoves s (act_of t i (MemberEvent.steps m space x answer kept scratch book)) s)
-  step-refused {number} {place} e = (holds_as (Fail number place) e, λ s. refused-step t i m space x answer kept scratch book p.typed told-by e s)
+  step-refused : {number place : ℕ} → stepping_verdict t i m space x ≡ refused number place → (h' ≡ h) × ((s : Ledger) → Run LedgerMoves s (act_of t i (MemberEvent.steps m space x answer kept scratch book)) s)
+  step-refused {number} {place} e = (holds_as (refused number place) e, λ s. refused-step t i m space x answer kept scratch book p.typed told-by e s)
 
-  step-accepted : stepping_verdict t i m space x ≡ Pass → (h'.member.opened ≡ true) × Run LedgerMoves (ledger_of t h) (act_of t i (MemberEvent.steps m space x answer kept scratch book)) (ledger_of t h')
+  step-accepted : stepping_verdict t i m space x ≡ Ok tt → (h'.member.opened ≡ true) × Run LedgerMoves (ledger_of t h) (act_of t i (MemberEvent.steps m space x answer kept scratch book)) (ledger_of t h')
   step-accepted e =
-      let now : h' ≡ held_by Pass = holds_as Pass e in (
+      let now : h' ≡ held_by (Ok tt) = holds_as (Ok tt) e in (
         ap (λ g. g.member.opened) now,
         subst (λ s. Run LedgerMoves (ledger_of t h) (act_of t i (MemberEvent.steps m space x answer kept scratch book)) s)
             (ap (λ n. after_call n) p.given ∙ ap (ledger_of t) (sym now))
@@ -261,7 +257,7 @@ books-starts :
 unfolding tells_by holds_by
 books-starts {t} {h = h} {m = m} {e = e} p =
     let told-as = p.tells in
-    let a : book_start_tells e.answer ≡ answered (book_start_verdict e.total e.buffer) 512 = (start-parts told-as).0 in
+    let a : e.answer ≡ answered (book_start_verdict e.total e.buffer) 512 = (start-parts told-as).0 in
     let w : e.left ≡ after (book_start_verdict e.total e.buffer) new e.buffer = (start-parts told-as).1 in
     let z = answered-accepted (book_start_verdict e.total e.buffer) p.lent.size 512 (sym p.lent.accepts ∙ a) in (
       ap (λ g. g.member) p.holds,
@@ -284,19 +280,19 @@ books-starts {t} {h = h} {m = m} {e = e} p =
     start-parts q = (cc, cc)
 
 -- an opening, by its verdict
-module _ {t : Terms} {i : ℕ} {h h' : Held} {m : Member} {space : ℤ} {kept : List ℕ} {k : ℕ} {answer : Opened} (p : MemberMoves t i h (MemberEvent.opens m space kept k answer) h') where
-  opening-tells : open_tells answer ≡ answered (opening_verdict t i h.member space kept k) (open_balance kept k)
+module _ {t : Terms} {i : ℕ} {h h' : Held} {m : Member} {space : ℤ} {kept : List ℕ} {k : ℕ} {answer : Answered Balance} (p : MemberMoves t i h (MemberEvent.opens m space kept k answer) h') where
+  opening-tells : answer ≡ answered (opening_verdict t i h.member space kept k) (open_balance kept k)
   unfolding tells_by
   opening-tells = opened-parts p.tells
 
-  opening-refused : {number place : ℕ} → opening_verdict t i h.member space kept k ≡ Fail number place → (h' ≡ h) × (opening_of (MemberEvent.opens m space kept k answer) ≡ [])
+  opening-refused : {number place : ℕ} → opening_verdict t i h.member space kept k ≡ refused number place → (h' ≡ h) × (opening_of (MemberEvent.opens m space kept k answer) ≡ [])
   unfolding holds_by
   opening-refused e = (
     p.holds ∙ (λ z. record { member = after (e z) (open_with (sum kept)) h.member; kept = after (e z) kept h.kept; book = h.book; length = h.length }),
     ap balance_told (opening-tells ∙ ap (λ w. answered w (open_balance kept k)) e),
   )
 
-  opening-accepted : opening_verdict t i h.member space kept k ≡ Pass → (h' ≡ record { member = open_with (sum kept); kept = kept; book = h.book; length = h.length }) × (opening_of (MemberEvent.opens m space kept k answer) ≡ open_balance kept k ∷ [])
+  opening-accepted : opening_verdict t i h.member space kept k ≡ Ok tt → (h' ≡ record { member = open_with (sum kept); kept = kept; book = h.book; length = h.length }) × (opening_of (MemberEvent.opens m space kept k answer) ≡ open_balance kept k ∷ [])
   unfolding holds_by
   opening-accepted e = (
     p.holds ∙ (λ z. record { member = after (e z) (open_with (sum kept)) h.member; kept = after (e z) kept h.kept; book = h.book; length = h.length }),
@@ -304,7 +300,7 @@ module _ {t : Terms} {i : ℕ} {h h' : Held} {m : Member} {space : ℤ} {kept : 
   )
 
 -- a registration leaves what it holds
-registering-holds : {t : Terms} {i : ℕ} {h h' : Held} {m : Member} {answer : Registered} → MemberMoves t i h (MemberEvent.registers m answer) h' → h' ≡ h
+registering-holds : {t : Terms} {i : ℕ} {h h' : Held} {m : Member} {answer : Checked} → MemberMoves t i h (MemberEvent.registers m answer) h' → h' ≡ h
 unfolding holds_by
 registering-holds p = p.holds
 
@@ -357,7 +353,7 @@ lives-end o (Run.step {e = e} m r) = lives-end (lives e o m).still r
 data Begun (t : Terms) (i : ℕ) (h : Held) (e : MemberEvent) (h' : Held) : Type 0 where
   stays : h' ≡ h → opening_of e ≡ [] → act_of t i e ≡ [] → Begun t i h e h'
   begins :
-      (kept : List ℕ) → open_verdict kept t.scale ≡ Pass → h' ≡ record { member = open_with (sum kept); kept = kept; book = h.book; length = h.length }
+      (kept : List ℕ) → open_verdict kept t.scale ≡ Ok tt → h' ≡ record { member = open_with (sum kept); kept = kept; book = h.book; length = h.length }
       → opening_of e ≡ open_balance kept t.scale ∷ [] → act_of t i e ≡ [] → Begun t i h e h'
 
 begins-by : {t : Terms} {i : ℕ} {h h' : Held} (e : MemberEvent) → h.member.opened ≡ false → MemberMoves t i h e h' → Begun t i h e h'
@@ -379,7 +375,7 @@ begins-by (MemberEvent.books m e) o p = absurd (clash (ap (λ n. n.opened) (sym 
 -- the opening, and the run of Step after it
 record Life (t : Terms) (i : ℕ) (es : List MemberEvent) (end : Held) : Type 0 where
   masses : List ℕ
-  fits : open_verdict masses t.scale ≡ Pass
+  fits : open_verdict masses t.scale ≡ Ok tt
   once : collect opening_of es ≡ open_balance masses t.scale ∷ []
   buffer : List ℕ
   length : ℕ
@@ -435,10 +431,9 @@ life-account :
     → Account (open_balance z.masses t.scale) (steps_in (collect (act_of t i) es)) (standing_of (ledger_of t end))
     × ((before rest : List Act) (e : StartEvent) → collect (act_of t i) es ≡ before ++ (Act.starts e ∷ rest)
     → BookAccount (book_after rest (book_of.book e.total [])) (ledger_of t end))
-unfolding open_tells
 life-account {t} {i} {es} {end} z =
     let b = open_balance z.masses t.scale in
-    book-demand3 z.masses t.scale (Accepted b) b (record { answers = ap (λ w. answered w b) (sym z.fits) }) refl
+    book-demand3 z.masses t.scale (Ok b) b (record { answers = ap (λ w. answered w b) (sym z.fits) }) refl
     z.buffer z.length (collect (act_of t i) es) (ledger_of t end) z.run
 
 -- ---- every history

@@ -1,11 +1,12 @@
--- The byte of who waits: a bit set and a bit cleared, and the count of the set bits, each by a computed test of every byte and bit. Assumes
+-- The byte of who waits: a bit read, set and cleared, and the count of the set bits, each by a computed test of every byte and bit. Assumes
 -- nothing.
-use mathlib.Core.Path.{◌≡◌, refl, sym, ◌∙◌, ap}
+use mathlib.Core.Path.{◌≡◌, refl}
 use mathlib.Core.Bool.{Bool, true, false, not, ◌&&◌, ◌||◌, beq}
-use Prim.Native.Nat.{ℕ, ◌≤◌, ◌<◌, ◌^◌}
+use Prim.Native.Nat.{ℕ, ◌-◌, ◌<◌, ◌^◌}
+use lib.Bits.{bit_and, bit_or}
 use lib.Count.{ones, ones_in}
-use lib.Dec.{eqb, leb, ltb}
-use borrow.Author.Tests.{eqb-true, leb-true, ltb-true}
+use lib.Dec.{eqb, ltb}
+use borrow.Author.Tests.{eqb-true, ltb-true}
 use Rattle.numbers.specs.Sums.{sum_to}
 use Rattle.numbers.specs.Checks.{every_from}
 use Rattle.numbers.proofs.TestLaws.{clash}
@@ -51,9 +52,17 @@ every-clear-byte : EveryBit (λ w i j. ltb (without_bit w i) 256)
 unfolding every_from waits without_bit
 every-clear-byte = refl
 
-every-set-power : EveryBit (λ w i j. not (waits w i) || leb (2 ^ i) w)
+every-read : EveryBit (λ w i j. beq (waits w i) (not (eqb (bit_and w (2 ^ i)) 0)))
 unfolding every_from waits
-every-set-power = refl
+every-read = refl
+
+every-set : EveryBit (λ w i j. eqb (with_bit w i) (bit_or w (2 ^ i)))
+unfolding every_from waits with_bit
+every-set = refl
+
+every-cleared : EveryBit (λ w i j. eqb (without_bit w i) (bit_and w (255 - 2 ^ i)))
+unfolding every_from waits without_bit
+every-cleared = refl
 
 module _ (w i : ℕ) (a : w < 256) (b : i < 8) where
   -- bit j of the byte with bit i set, and with bit i clear; both are bytes
@@ -69,9 +78,16 @@ module _ (w i : ℕ) (a : w < 256) (b : i < 8) where
   pub clear-byte : without_bit w i < 256
   clear-byte = ltb-true (without_bit w i) 256 (every-bit (λ w i j. ltb (without_bit w i) 256) every-clear-byte w i i a b b)
 
-  -- a bit that is set has its power in the byte
-  pub set-power : waits w i ≡ true → 2 ^ i ≤ w
-  set-power e = leb-true (2 ^ i) w (sym (ap (λ t. not t || leb (2 ^ i) w) e) ∙ every-bit (λ w i j. not (waits w i) || leb (2 ^ i) w) every-set-power w i i a b b)
+-- a bit as the code reads it, sets it and clears it
+pub bit_read : (w i : ℕ) → w < 256 → i < 8 → waits w i ≡ not (eqb (bit_and w (2 ^ i)) 0)
+bit_read w i a b = beq-means (waits w i) (not (eqb (bit_and w (2 ^ i)) 0)) (every-bit (λ w i j. beq (waits w i) (not (eqb (bit_and w (2 ^ i)) 0))) every-read w i i a b b)
+
+pub bit_set : (w i : ℕ) → w < 256 → i < 8 → with_bit w i ≡ bit_or w (2 ^ i)
+bit_set w i a b = eqb-true (with_bit w i) (bit_or w (2 ^ i)) (every-bit (λ w i j. eqb (with_bit w i) (bit_or w (2 ^ i))) every-set w i i a b b)
+
+pub bit_cleared : (w i : ℕ) → w < 256 → i < 8 → without_bit w i ≡ bit_and w (255 - 2 ^ i)
+bit_cleared w i a b =
+    eqb-true (without_bit w i) (bit_and w (255 - 2 ^ i)) (every-bit (λ w i j. eqb (without_bit w i) (bit_and w (255 - 2 ^ i))) every-cleared w i i a b b)
 
 -- the machine's count of the set bits is the number of members that wait
 every-count : every_from (λ w. eqb (ones w) (members_waiting w)) 0 256 ≡ true

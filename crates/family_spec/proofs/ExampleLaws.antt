@@ -1,6 +1,7 @@
 -- The concrete history of specs/Example.antt is a history, after a start that is accepted: the checks of masses, and what they give, hold by
 -- computing; the books' bytes are not computed, they are there by the laws of books. Assumes nothing.
-use mathlib.Core.Path.{◌≡◌, refl, sym, ◌∙◌, ap, subst}
+use Rattle.std.specs.Prelude.{Ok, Some}
+use mathlib.Core.Path.{◌≡◌, refl, sym, ◌∙◌, subst}
 use mathlib.Core.Logic.{⊎_elim}
 use mathlib.Core.Bool.{Bool, true}
 use mathlib.Core.List.{List, [], ◌∷◌, ◌++◌}
@@ -9,12 +10,11 @@ use native.Mathlib.Omega.{arith}
 use lib.IntN.{ℤ, pos, negsuc, ◌+ℤ◌}
 use lib.Signed.{◌≤ℤ◌, le_z_yes}
 use lib.ListN.{replicate}
-use Rattle.numbers.specs.declared.Checked.TheVariants.{Pass, Fail}
 use Rattle.numbers.specs.Sums.{sum_to}
 use Rattle.numbers.specs.Lists.{All, list_to, written}
 use Rattle.numbers.specs.Signed.{min_ℤ, max_ℤ}
 use Rattle.numbers.specs.Quota.{quota}
-use Rattle.numbers.specs.Checks.{each_from, first_from, check_count, check_scale, check_total, accepted, refused}
+use Rattle.numbers.specs.Checks.{Answered, each_from, first_from, check_count, check_scale, check_total, refused}
 use Rattle.numbers.proofs.CheckLaws.{answered-accepted, answered-refused}
 use Rattle.caas_spec.specs.Split.{clip, clipped, deficit, capacity, portion, first_share, remainder, left, second_share, shares, result}
 use Rattle.qlt_spec.specs.Tree.{leads, child_of, any_child, node_sum, parent_ok, node_ok, mass_from, mass_at}
@@ -24,37 +24,32 @@ use Rattle.qlt_spec.specs.Checks.{check_nodes, check_lists, check_tree, bounds_o
 use Rattle.qlt_spec.specs.Operation.{repair, cleared}
 use Rattle.book_spec.specs.Book.{Entry, Book, book, count, closing, add, WellFormed, book_blocks, book_bytes}
 use Rattle.book_spec.specs.LentBook.{HasBook}
-use Rattle.book_spec.specs.StartBook.{book_start_tells}
 use Rattle.book_spec.proofs.HeldLaws.{has-written, has-read}
 use Rattle.book_spec.proofs.AddLaws.{add-count, add-closing, add-formed}
 use Rattle.book_spec.proofs.StartLaws.{empty-closing}
 use Rattle.kept_spec.specs.declared.Stepped.{Stepped}
-use Rattle.kept_spec.specs.declared.Stepped.TheVariants as stepped
-use Rattle.kept_spec.specs.Open.{open_tells}
-use Rattle.kept_spec.specs.Step.{StepCall, new_total, check_same_scale, check_kept, step_tells, step_result, step_entry, step_verdict, StepResult}
+use Rattle.kept_spec.specs.Step.{StepCall, new_total, check_same_scale, check_kept, step_result, step_entry, step_verdict}
 use Rattle.kept_spec.specs.Run.{Run, collect}
 use Rattle.kept_spec.specs.BookRun.{StartPromised, book_after, BookAccount, Act}
 use Rattle.kept_spec.specs.Example.{two, lent_book, book_start}
 use Rattle.kept_spec.proofs.ExampleLaws.{lent_book-held, typed, book-starts}
 use Rattle.family_spec.specs.declared.Family.{Family}
-use Rattle.family_spec.specs.declared.NextMember.TheVariants as next
-use Rattle.family_spec.specs.declared.Turned.{Turned}
-use Rattle.family_spec.specs.declared.Turned.TheVariants.{Idle, Served}
-use Rattle.family_spec.specs.declared.FamilyStepped.{FamilyStepped}
+use Rattle.family_spec.specs.declared.FamilyAnswer.{FamilyAnswer}
 use Rattle.family_spec.specs.Family.{open_with, member_at, total_of, put, schedule, others, room, terms}
 use Rattle.family_spec.specs.Waiting.{waits, with_bit, without_bit, first_waiting}
 use Rattle.family_spec.specs.Member.{check_closed, check_opened, check_same_cells, check_room, check_source, opening_verdict, StepInputs, call_of}
-use Rattle.family_spec.specs.Operations.{start_verdict, start_tells, OpenMemberContract, StepMemberContract, register_tells, RegisterContract, next_member, TurnContract, step_member_verdict, TurnBy}
+use Rattle.family_spec.specs.Operations.{start_verdict, OpenMemberContract, StepMemberContract, RegisterContract, next_member, TurnContract, step_member_verdict, TurnBy}
 use Rattle.family_spec.specs.History.{FamilyEvent, FamilyMoves, Lends, served_in, same, only, acts_of}
 use Rattle.family_spec.specs.Claims.{Begins, MemberAccount, ledger_at}
 use Rattle.family_spec.specs.Example.{filed, inputs, busy, again, book22, entry3, entry5, entry12, entry17, entry18, entry22, call1, start1, call2, start2, call3, call4, call5, call6, call7, call8, call9, call10, call11, call12, call13, call14, call15, call16, call17, call18, call19, call20, call21, call22, book3, book5, book12, book17, book18, turned, over, told, begin, events, last}
 use Rattle.family_spec.proofs.AnswerLaws.{member_checks, member-refused, member-accepted}
+use Rattle.family_spec.proofs.TurnLaws.{served-same}
 use Rattle.family_spec.proofs.Histories.{accounts, always-steps, always-serves, lends-whole}
 use Rattle.family_spec.proofs.AccountLaws.{counted, counted-pass}
 use Rattle.family_spec.proofs.RuleLaws.{SteppingOwn}
 
 pub begins : Begins 20 20 2 begin
-unfolding check_count check_scale start_verdict start_tells
+unfolding check_count check_scale start_verdict
 begins = record { contract = record { answers = refl; gives = refl }; empty = λ i. refl; no_book = λ i. refl; no_length = λ i. refl }
 
 -- ---- books of one block
@@ -82,9 +77,9 @@ module _
 
     -- a step that is lent such a book
     accepts :
-        closing B ≡ total_of f i → count B < 41 → member_checks f i x ≡ Pass
+        closing B ≡ total_of f i → count B < 41 → member_checks f i x ≡ Ok tt
         → StepMemberContract f i x
-        (record { family = put f i (open_with (new_total c)); answer = stepped.Accepted (step_result c).repair (step_result c).balance 512 })
+        (record { family = put f i (open_with (new_total c)); answer = Ok (record { repair = (step_result c).repair; balance = (step_result c).balance; length = 512 }) })
         (tree_masses (field two) (new_total c)) (cleared (scratch_per_node * nodes two) (replicate 12 (pos 1))) (filed b (step_entry c))
     unfolding filed
     accepts q few e =
@@ -92,13 +87,13 @@ module _
         subst
         (λ l.
         StepMemberContract f i x
-        (record { family = put f i (open_with (new_total c)); answer = stepped.Accepted (step_result c).repair (step_result c).balance l })
+        (record { family = put f i (open_with (new_total c)); answer = Ok (record { repair = (step_result c).repair; balance = (step_result c).balance; length = l }) })
         (tree_masses (field two) (new_total c)) (cleared (scratch_per_node * nodes two) (replicate 12 (pos 1))) (filed b (step_entry c)))
         n (member-accepted f i x (typed c h least most) B h q (omega arith) e)
 
     refuses :
-        (number : ℕ) → member_checks f i x ≡ Fail number 0
-        → StepMemberContract f i x (record { family = f; answer = stepped.Refused number 0 }) kept (replicate 12 (pos 1)) b
+        (number : ℕ) → member_checks f i x ≡ refused number 0
+        → StepMemberContract f i x (record { family = f; answer = refused number 0 }) kept (replicate 12 (pos 1)) b
     refuses number e = member-refused f i x (typed c h least most) h.room e
 
 -- those that stand, one after another
@@ -139,8 +134,8 @@ contracts : All Promised events
 unfolding sum_to list_to written min_ℤ max_ℤ quota each_from first_from check_count check_scale clip clipped deficit capacity portion first_share remainder left
     second_share shares result leads child_of any_child node_sum parent_ok node_ok mass_from mass_at mass_between outcome outcome_number low_in high_in change_of group_of
     tree_mass tree_masses shared_of tree_shared check_nodes check_lists check_tree bounds_ordered check_order check_sum check_reach check_shape check_values repair cleared
-    check_total check_same_scale check_kept open_tells others room check_closed check_opened check_same_cells check_room check_source opening_verdict
-    waits with_bit without_bit first_waiting register_tells next_member
+    check_total check_same_scale check_kept others room check_closed check_opened check_same_cells check_room check_source opening_verdict
+    waits with_bit without_bit first_waiting next_member
 contracts =
     All.more {e = call1} (record { tells = record { answers = refl }; gives = refl })
     (All.more {e = start1} (book-starts 8 (omega arith))
@@ -162,7 +157,7 @@ contracts =
     (All.more {e = call16} (record { answers = refl; gives = refl })
     (All.more {e = call17} (accepts _ 0 _ (pos 0) held12 (le_z_yes tt) (le_z_yes tt) (add-closing (book 8 (entry3 ∷ [])) entry12) (omega arith) refl)
     (All.more {e = call18} (record { serves_next = record { step = record { family = schedule turned 3 0; answer = told 10 }; contract = accepts _ 0 _ (pos 4) held17 (le_z_yes tt) (le_z_yes tt) (add-closing (book 8 (entry3 ∷ entry12 ∷ [])) entry17) (omega arith) refl; answers = refl; gives = refl } })
-    (All.more {e = call19} (record { serves_next = record { step = record { family = turned; answer = stepped.Refused 20 0 }; contract = refuses _ 1 _ (pos 1) held5 (le_z_yes tt) (le_z_yes tt) 20 refl; answers = refl; gives = refl } })
+    (All.more {e = call19} (record { serves_next = record { step = record { family = turned; answer = refused 20 0 }; contract = refuses _ 1 _ (pos 1) held5 (le_z_yes tt) (le_z_yes tt) 20 refl; answers = refl; gives = refl } })
     (All.more {e = call20} (record { serves_next = record { answers = refl; gives = refl; keeps = refl; leaves = refl; files = refl } })
     (All.more {e = call21} (record { answers = refl; gives = refl })
     (All.more {e = call22} (record { serves_next = record { step = record { family = schedule over 1 2; answer = told 6 }; contract = accepts _ 0 _ (negsuc 3) held18 (le_z_yes tt) (le_z_yes tt) (add-closing (book 8 (entry3 ∷ entry12 ∷ entry17 ∷ [])) entry18) (omega arith) refl; answers = refl; gives = refl } }) All.none)))))))))))))))))))))))
@@ -171,7 +166,6 @@ contracts =
 
 -- the steps were lent their member's masses, a part of them, or, refused, other lists; and their member's book or, refused, another
 runs : All Promised events → Run FamilyMoves begin events last
-unfolding open_tells step_tells book_start_tells
 runs (All.more a (All.more a' (All.more b (All.more b' (All.more c (All.more d (All.more e (All.more f (All.more g (All.more h (All.more i (All.more j (All.more k (All.more l
     (All.more m (All.more n (All.more o (All.more p (All.more q (All.more r (All.more s (All.more t (All.more u (All.more v All.none)))))))))))))))))))))))) =
     Run.step (FamilyMoves.opens a)
@@ -214,53 +208,45 @@ example-served = refl
 -- ---- the book of member 0: it has the records of its accepted steps
 
 -- a step of it counts as a Step if it was accepted, or was refused with a number that is none of the family's own
-module _ {f : Family} {i : ℕ} {x : StepInputs} {r : FamilyStepped} {kept : List ℕ} {scratch : List ℤ} {book : List ℕ} (p : StepMemberContract f i x r kept scratch book) where
+module _ {f : Family} {i : ℕ} {x : StepInputs} {r : FamilyAnswer (Answered Stepped)} {kept : List ℕ} {scratch : List ℤ} {book : List ℕ} (p : StepMemberContract f i x r kept scratch book) where
   abbrev counts : Bool
   counts = same (step_member_verdict f i x) (step_verdict (call_of (terms f) (member_at f i) x))
 
-  accepted-counts : (z : StepResult) → step_tells r.answer ≡ accepted z → counts ≡ true
+  accepted-counts : (z : Stepped) → r.answer ≡ Ok z → counts ≡ true
   accepted-counts z e =
       counted-pass (terms f) i (member_at f i) (room f i) x
       (answered-accepted (step_member_verdict f i x) z (step_result (call_of (terms f) (member_at f i) x)) (sym e ∙ p.tells.tells.answers)).0
 
-  refused-counts : (number place : ℕ) → step_tells r.answer ≡ refused number place → (SteppingOwn number → ⊥) → counts ≡ true
+  refused-counts : (number place : ℕ) → r.answer ≡ refused number place → (SteppingOwn number → ⊥) → counts ≡ true
   refused-counts number place e n =
       counted (terms f) i (member_at f i) (room f i) x number place
       (answered-refused (step_member_verdict f i x) (step_result (call_of (terms f) (member_at f i) x)) number place (sym e ∙ p.tells.tells.answers)) n
 
 -- so does one in a turn
 served-counts :
-    (i total : ℕ) (f : Family) {x : StepInputs} {g : Family} {kept : List ℕ} {scratch : List ℤ} {book : List ℕ} → TurnContract f x (record { family = g; answer = Served i (told total) }) kept scratch book
-    → next_member f ≡ next.Member i → same (step_member_verdict f i x) (step_verdict (call_of (terms f) (member_at f i) x)) ≡ true
-unfolding step_tells
+    (i total : ℕ) (f : Family) {x : StepInputs} {g : Family} {kept : List ℕ} {scratch : List ℤ} {book : List ℕ} → TurnContract f x (record { family = g; answer = Some (record { member = i; stepped = told total }) }) kept scratch book
+    → next_member f ≡ Some i → same (step_member_verdict f i x) (step_verdict (call_of (terms f) (member_at f i) x)) ≡ true
 served-counts i total f {x} {g} {kept} {scratch} {book} p e =
-    let q = subst (λ n. TurnBy n f x (record { family = g; answer = Served i (told total) }) kept scratch book) e p.serves_next in
-    accepted-counts q.contract _ (served-tells q.answers)
-  where
-    answer_of : Turned → Stepped
-    answer_of Idle = stepped.Refused 0 0
-    answer_of (Served j a) = a
-
-    served-tells : {a : Stepped} → Served i (told total) ≡ Served i a → step_tells a ≡ step_tells (told total)
-    served-tells h = ap (λ t. step_tells (answer_of t)) (sym h)
+    let q = subst (λ n. TurnBy n f x (record { family = g; answer = Some (record { member = i; stepped = told total }) }) kept scratch book) e p.serves_next in
+    accepted-counts q.contract _ (sym (served-same q.answers).1)
 
 -- its steps after the start of its book: those that count
-abbrev act : StepInputs → ℕ → Stepped → List ℕ → List ℤ → List ℕ → Act
+abbrev act : StepInputs → ℕ → Answered Stepped → List ℕ → List ℤ → List ℕ → Act
 act x total answer kept scratch book =
     Act.steps (record { call = call_of (terms over) (open_with total) x; answer = answer; kept = kept; scratch = scratch; book = book })
 
 abbrev acts : Bool → Bool → Bool → Bool → Bool → Bool → Bool → List Act
 acts b3 b10 b11 b12 b17 b18 b22 =
     only b3 (act (inputs (3 ∷ 5 ∷ []) (pos 2) (lent_book 8)) 8 (told 10) (4 ∷ 6 ∷ []) (replicate 12 (pos 0)) book3)
-    ++ (only b10 (act (inputs (6 ∷ []) (pos 0) book3) 10 (stepped.Refused 3 0) (6 ∷ []) (replicate 12 (pos 1)) book3)
-    ++ (only b11 (act (inputs (5 ∷ 4 ∷ []) (pos 0) book5) 10 (stepped.Refused 12 0) (5 ∷ 4 ∷ []) (replicate 12 (pos 1)) book5)
+    ++ (only b10 (act (inputs (6 ∷ []) (pos 0) book3) 10 (refused 3 0) (6 ∷ []) (replicate 12 (pos 1)) book3)
+    ++ (only b11 (act (inputs (5 ∷ 4 ∷ []) (pos 0) book5) 10 (refused 12 0) (5 ∷ 4 ∷ []) (replicate 12 (pos 1)) book5)
     ++ (only b12 (act (inputs (4 ∷ 6 ∷ []) (negsuc 3) book3) 10 (told 6) (2 ∷ 4 ∷ []) (replicate 12 (pos 0)) book12)
     ++ (only b17 (act (inputs (2 ∷ 4 ∷ []) (pos 0) book12) 6 (told 6) (2 ∷ 4 ∷ []) (replicate 12 (pos 0)) book17)
     ++ (only b18 (act (inputs (2 ∷ 4 ∷ []) (pos 4) book17) 6 (told 10) (4 ∷ 6 ∷ []) (replicate 12 (pos 0)) book18)
     ++ (only b22 (act (inputs (4 ∷ 6 ∷ []) (negsuc 3) book18) 10 (told 6) (2 ∷ 4 ∷ []) (replicate 12 (pos 0)) book22) ++ []))))))
 
 acts-are : All Promised events → acts_of (terms last.family) 0 events ≡ Act.starts (book_start 8) ∷ acts true true true true true true true
-unfolding collect step_tells next_member first_waiting waits
+unfolding collect next_member first_waiting waits
 acts-are (All.more a (All.more a' (All.more b (All.more b' (All.more c (All.more d (All.more e (All.more f (All.more g (All.more h (All.more i (All.more j (All.more k (All.more l
     (All.more m (All.more n (All.more o (All.more p (All.more q (All.more r (All.more s (All.more t (All.more u (All.more v All.none)))))))))))))))))))))))) =
     let b3 = accepted-counts c _ refl in
@@ -273,5 +259,5 @@ acts-are (All.more a (All.more a' (All.more b (All.more b' (All.more c (All.more
     λ z. Act.starts (book_start 8) ∷ acts (b3 z) (b10 z) (b11 z) (b12 z) (b17 z) (b18 z) (b22 z)
 
 pub example-book : BookAccount (book 8 (entry3 ∷ entry12 ∷ entry17 ∷ entry18 ∷ entry22 ∷ [])) (ledger_at last 0)
-unfolding book_after step_tells
+unfolding book_after
 example-book = example-account.books [] (acts true true true true true true true) (book_start 8) (acts-are contracts)

@@ -1,5 +1,6 @@
 -- Laws of a family's members: one replaced and the others left, the sum of the totals with one of them apart, and the room as it is tested in
 -- whole numbers that are not below 0. Assumes nothing.
+use Rattle.std.specs.Prelude.{Ok, Err}
 use mathlib.Core.Path.{◌≡◌, refl, sym, ◌∙◌, ap, ap₂}
 use mathlib.Core.Logic.{◌≢◌}
 use mathlib.Core.Bool.{Bool, true, false, not, ◌||◌}
@@ -11,10 +12,8 @@ use lib.Signed.{le_z}
 use lib.ListN.{length, get_or, replicate, length-set}
 use lib.Seq.{get_or-set_same, get_or-set_other}
 use borrow.Author.Tests.{eqb-true, eq-eqb, leb-true, le-leb}
-use Rattle.numbers.specs.declared.Checked.{Checked}
-use Rattle.numbers.specs.declared.Checked.TheVariants.{Pass, Fail}
 use Rattle.numbers.specs.Sums.{ℕ_adds, sum_to, pick}
-use Rattle.numbers.specs.Checks.{after, unless}
+use Rattle.numbers.specs.Checks.{Checked, after, unless}
 use Rattle.numbers.proofs.TestLaws.{Tested, holds, fails, tested, not_so, clash}
 use Rattle.numbers.proofs.SignedLaws.{le_z-true, le_z-false, minus-parts, one-part}
 use Rattle.numbers.proofs.SumLaws.{sum_to-ext, sum_to-plus, sum_to-one, pick-ext}
@@ -39,13 +38,13 @@ begun-closed cap scale cells i = go 8 i
     go (suc k) (suc i) = go k i
 
 module _ (f : Family) (eight : Eight f) (i : ℕ) (m : Member) where
-  pub put-here : (v : Checked) → (v ≡ Pass → i ≤ 7) → member_at (after v (put f i m) f) i ≡ after v m (member_at f i)
-  put-here Pass h = get_or-set_same f.members i m closed (let k = h refl in omega (arith, eight))
-  put-here (Fail n p) h = refl
+  pub put-here : (v : Checked) → (v ≡ Ok tt → i ≤ 7) → member_at (after v (put f i m) f) i ≡ after v m (member_at f i)
+  put-here (Ok tt) h = get_or-set_same f.members i m closed (let k = h refl in omega (arith, eight))
+  put-here (Err r) h = refl
 
   pub put_other : (v : Checked) (j : ℕ) → j ≢ i → member_at (after v (put f i m) f) j ≡ member_at f j
-  put_other Pass j h = get_or-set_other f.members i j m closed h
-  put_other (Fail n p) j h = refl
+  put_other (Ok tt) j h = get_or-set_other f.members i j m closed h
+  put_other (Err r) j h = refl
 
 -- what no call changes
 pub record Steady (f f' : Family) : Type 0 where
@@ -54,17 +53,17 @@ pub record Steady (f f' : Family) : Type 0 where
   pub terms : terms f' ≡ terms f
 
 pub put-steady : (f : Family) (i : ℕ) (m : Member) (v : Checked) → Steady f (after v (put f i m) f)
-put-steady f i m Pass = record { size = length-set f.members i m; cap = refl; terms = refl }
-put-steady f i m (Fail n p) = record { size = refl; cap = refl; terms = refl }
+put-steady f i m (Ok tt) = record { size = length-set f.members i m; cap = refl; terms = refl }
+put-steady f i m (Err r) = record { size = refl; cap = refl; terms = refl }
 
 -- another byte of who waits leaves every member and all of these
 pub schedule-members : (f : Family) (byte from : ℕ) (v : Checked) (j : ℕ) → member_at (after v (schedule f byte from) f) j ≡ member_at f j
-schedule-members f byte from Pass j = refl
-schedule-members f byte from (Fail n p) j = refl
+schedule-members f byte from (Ok tt) j = refl
+schedule-members f byte from (Err r) j = refl
 
 pub schedule-steady : (f : Family) (byte from : ℕ) (v : Checked) → Steady f (after v (schedule f byte from) f)
-schedule-steady f byte from Pass = record { size = refl; cap = refl; terms = refl }
-schedule-steady f byte from (Fail n p) = record { size = refl; cap = refl; terms = refl }
+schedule-steady f byte from (Ok tt) = record { size = refl; cap = refl; terms = refl }
+schedule-steady f byte from (Err r) = record { size = refl; cap = refl; terms = refl }
 
 -- ---- sums of totals
 
@@ -96,8 +95,8 @@ module _ (f : Family) (i : ℕ) where
       apart 8 (total_of (put f i m)) i (omega arith)
       ∙ ap₂ ◌+◌
       (sum_to-ext ℕ_adds 8 (λ j. pick ℕ_adds (not (eqb j i)) (total_of (put f i m) j)) (λ j. pick ℕ_adds (not (eqb j i)) (total_of f j))
-      (λ j k. pick-ext ℕ_adds (not (eqb j i)) (total_of (put f i m) j) (total_of f j) (λ t. ap (λ x. x.total) (put_other f eight i m Pass j (apart_from j t)))))
-      (ap (λ x. x.total) (put-here f eight i m Pass (λ e. l)))
+      (λ j k. pick-ext ℕ_adds (not (eqb j i)) (total_of (put f i m) j) (total_of f j) (λ t. ap (λ x. x.total) (put_other f eight i m (Ok tt) j (apart_from j t)))))
+      (ap (λ x. x.total) (put-here f eight i m (Ok tt) (λ e. l)))
     where
       apart_from : (j : ℕ) → not (eqb j i) ≡ true → j ≢ i
       apart_from j t e = clash t (ap not (eq-eqb j i e))
@@ -122,15 +121,15 @@ room-test f i t = by-test (tested (le_z (pos t) (room f i)))
     by-test (fails e) = e ∙ sym (not_so (leb (others f i + t) f.cap) (λ h. omega (arith, leb-true (others f i + t) f.cap h, room-full f i t e)))
 
 -- check 20 as the code makes it
-pub room-checked : (f : Family) (i total : ℕ) → check_room total (room f i) ≡ unless (leb (others f i + total) f.cap) 20 0
+pub room_checked : (f : Family) (i total : ℕ) → check_room total (room f i) ≡ unless (leb (others f i + total) f.cap) 20 0
 unfolding check_room
-room-checked f i total = ap (λ b. unless b 20 0) (room-test f i total)
+room_checked f i total = ap (λ b. unless b 20 0) (room-test f i total)
 
 -- of a step, by its source
-pub source-passes : (source : ℤ) (total : ℕ) (space : ℤ) → le_z source (pos 0) ≡ true → check_source source total space ≡ Pass
+pub source_passes : (source : ℤ) (total : ℕ) (space : ℤ) → le_z source (pos 0) ≡ true → check_source source total space ≡ Ok tt
 unfolding check_source
-source-passes source total space e = ap (λ b. unless (b || le_z (pos total) space) 20 0) e
+source_passes source total space e = ap (λ b. unless (b || le_z (pos total) space) 20 0) e
 
-pub source-counts : (source : ℤ) (total : ℕ) (space : ℤ) → le_z source (pos 0) ≡ false → check_source source total space ≡ check_room total space
+pub source_counts : (source : ℤ) (total : ℕ) (space : ℤ) → le_z source (pos 0) ≡ false → check_source source total space ≡ check_room total space
 unfolding check_source check_room
-source-counts source total space e = ap (λ b. unless (b || le_z (pos total) space) 20 0) e
+source_counts source total space e = ap (λ b. unless (b || le_z (pos total) space) 20 0) e

@@ -1,5 +1,6 @@
 -- The theorems about every history of a family from an accepted start: each member's account, the cap, the turns, and that a member depends on
 -- nothing but its own calls and its room; and that no input is without a call that moves a history on. Assumes nothing.
+use Rattle.std.specs.Prelude.{Ok, Some, None, Option}
 use mathlib.Core.Path.{◌≡◌, refl, sym, ◌∙◌, ap, subst}
 use mathlib.Core.Logic.{◌⊎◌, ◌↔◌}
 use mathlib.Core.Bool.{true, false}
@@ -8,26 +9,20 @@ use Prim.Native.Nat.{ℕ, ◌≤◌, ◌<◌}
 use native.Mathlib.Omega.{arith}
 use lib.IntN.{ℤ}
 use lib.ListN.{length}
-use Rattle.numbers.specs.declared.Checked.TheVariants.{Pass}
 use Rattle.numbers.specs.Sums.{sum_to}
-use Rattle.numbers.specs.Checks.{after, Answered}
+use Rattle.numbers.specs.Checks.{Checked, after, Answered}
 use Rattle.numbers.proofs.TestLaws.{clash}
 use Rattle.numbers.proofs.CheckLaws.{answered-accepted}
 use Rattle.kept_spec.specs.declared.Stepped.{Stepped}
-use Rattle.kept_spec.specs.Open.{open_tells}
+use Rattle.kept_spec.specs.declared.Balance.{Balance}
 use Rattle.kept_spec.specs.Run.{Run}
-use Rattle.kept_spec.specs.Step.{step_tells, StepResult}
 use Rattle.family_spec.specs.declared.Family.{Family}
-use Rattle.family_spec.specs.declared.NextMember.TheVariants as next
-use Rattle.family_spec.specs.declared.Turned.TheVariants.{Idle, Served}
-use Rattle.family_spec.specs.declared.FamilyOpened.{FamilyOpened}
-use Rattle.family_spec.specs.declared.FamilyStepped.{FamilyStepped}
-use Rattle.family_spec.specs.declared.FamilyRegistered.{FamilyRegistered}
-use Rattle.family_spec.specs.declared.FamilyTurned.{FamilyTurned}
+use Rattle.family_spec.specs.declared.Served.{Served}
+use Rattle.family_spec.specs.declared.FamilyAnswer.{FamilyAnswer}
 use Rattle.family_spec.specs.Family.{closed, member_at, begun, totals, terms}
 use Rattle.family_spec.specs.Waiting.{waits, first_waiting, members_waiting}
 use Rattle.family_spec.specs.Member.{StepInputs}
-use Rattle.family_spec.specs.Operations.{start_verdict, start_tells, OpenMemberContract, StepMemberContract, RegisterContract, next_member, waiting_count, TurnContract}
+use Rattle.family_spec.specs.Operations.{start_verdict, OpenMemberContract, StepMemberContract, RegisterContract, next_member, waiting_count, TurnContract}
 use Rattle.family_spec.specs.History.{FamilyEvent, FamilyStanding, place, place_if, Lends, FamilyMoves, calls_of, view, told, held, openings_of, turns_in, served_in, lengths_after, acts_of}
 use Rattle.family_spec.specs.Claims.{Begins, IsOpen, MemberAccount, Waits, waits_after, NotYetServed, ServedWithin8, search_from, FirstAmong, WaitingOpen, TurnIdle}
 use Rattle.family_spec.proofs.FamilyLaws.{Eight, begun-closed}
@@ -45,8 +40,7 @@ no-bit i l = (nobody_next (begun 0 0 0)).0 (unfold next_member first_waiting wai
 -- ---- the start
 
 module _ {cap scale cells : ℕ} {s : FamilyStanding} (b : Begins cap scale cells s) where
-  start-passed : start_verdict scale cells ≡ Pass
-  unfolding start_tells
+  start-passed : start_verdict scale cells ≡ Ok tt
   start-passed = (answered-accepted (start_verdict scale cells) tt tt b.contract.answers).0
 
   start_is : s.family ≡ begun cap scale cells
@@ -103,18 +97,18 @@ module _ {cap scale cells : ℕ} {s : FamilyStanding} (b : Begins cap scale cell
       served-within t = within-eight i l (run-scheduled start-scheduled r) h q t
 
     -- the next is the first that waits after the last one served, going round, at the start from member 0
-    pub next-in-turn : (i : ℕ) → (next_member end.family ≡ next.Member i) ↔ FirstAmong end.family.waiting (search_from 0 (served_in es)) 8 i
+    pub next-in-turn : (i : ℕ) → (next_member end.family ≡ Some i) ↔ FirstAmong end.family.waiting (search_from 0 (served_in es)) 8 i
     next-in-turn i =
         let e : end.family.from ≡ search_from 0 (served_in es) = run-from start-scheduled r ∙ ap (λ x. search_from x (served_in es)) (ap (λ f. f.from) start_is) in
-        subst (λ x. (next_member end.family ≡ next.Member i) ↔ FirstAmong end.family.waiting x 8 i) e (next-is end.family i)
+        subst (λ x. (next_member end.family ≡ Some i) ↔ FirstAmong end.family.waiting x 8 i) e (next-is end.family i)
 
     -- a turn is idle exactly if nobody waits; it then changes nothing, and it and the reading of the next say so
-    pub idle-turns : {x : StepInputs} {a : FamilyTurned} {kept : List ℕ} {scratch : List ℤ} {book : List ℕ} → TurnContract end.family x a kept scratch book → TurnIdle end.family x a kept scratch book
+    pub idle-turns : {x : StepInputs} {a : FamilyAnswer (Option Served)} {kept : List ℕ} {scratch : List ℤ} {book : List ℕ} → TurnContract end.family x a kept scratch book → TurnIdle end.family x a kept scratch book
     idle-turns p = turn-idle _ _ _ _ _ _ p
 
     -- registering twice counts once
     pub registered-once :
-        {i : ℕ} {a b : FamilyRegistered} → RegisterContract end.family i a → RegisterContract a.family i b → (b.family ≡ a.family) × (b.answer ≡ a.answer)
+        {i : ℕ} {a b : FamilyAnswer Checked} → RegisterContract end.family i a → RegisterContract a.family i b → (b.family ≡ a.family) × (b.answer ≡ a.answer)
     registered-once p q = register-twice (run-scheduled start-scheduled r).byte p q
 
     -- the number waiting is that of the members that wait, and who waits is open
@@ -147,38 +141,38 @@ alone b b' r q i c =
 -- what the contracts promise of an opening, of a step or a turn that is lent its member's masses and book, of a registration and of a start of a
 -- book moves a history on, accepted or refused; for every input there is such a call (`every-open`, `every-step`, `every-register`, `every-turn`)
 pub always-opens :
-    (s : FamilyStanding) (i : ℕ) (kept : List ℕ) (k : ℕ) (r : FamilyOpened) → OpenMemberContract s.family i kept k r
+    (s : FamilyStanding) (i : ℕ) (kept : List ℕ) (k : ℕ) (r : FamilyAnswer (Answered Balance)) → OpenMemberContract s.family i kept k r
     → FamilyMoves s (FamilyEvent.opens s.family i kept k r)
-    (record { family = r.family; kept = place_if (open_tells r.answer) s.kept i kept; book = s.book; length = s.length })
+    (record { family = r.family; kept = place_if r.answer s.kept i kept; book = s.book; length = s.length })
 always-opens s i kept k r p = FamilyMoves.opens p
 
 -- a list that is lent as a whole
-pub lends-whole : (all : ℕ → List ℕ) (i : ℕ) {given left : List ℕ} {told : Answered StepResult} → given ≡ all i → Lends all i given told left (place all i left)
+pub lends-whole : (all : ℕ → List ℕ) (i : ℕ) {given left : List ℕ} {told : Answered Stepped} → given ≡ all i → Lends all i given told left (place all i left)
 lends-whole all i {given} {left} {told} e =
     subst (λ l. Lends all i given told left (place all i l)) (append-nil left) (Lends.own [] [] (sym e ∙ sym (append-nil given)) (λ a. e))
 
 pub always-steps :
-    (s : FamilyStanding) (i : ℕ) (x : StepInputs) (r : FamilyStepped) (kept : List ℕ) (scratch : List ℤ) (book : List ℕ)
+    (s : FamilyStanding) (i : ℕ) (x : StepInputs) (r : FamilyAnswer (Answered Stepped)) (kept : List ℕ) (scratch : List ℤ) (book : List ℕ)
     → StepMemberContract s.family i x r kept scratch book → x.kept ≡ s.kept i → x.book ≡ s.book i → x.length ≡ s.length i
     → FamilyMoves s (FamilyEvent.steps s.family i x r kept scratch book)
-    (record { family = r.family; kept = place s.kept i kept; book = place s.book i book; length = lengths_after s.length i (step_tells r.answer) })
+    (record { family = r.family; kept = place s.kept i kept; book = place s.book i book; length = lengths_after s.length i r.answer })
 always-steps s i x r kept scratch book p e d l = FamilyMoves.steps p (lends-whole s.kept i e) (lends-whole s.book i d) (λ a. l)
 
 pub always-registers :
-    (s : FamilyStanding) (i : ℕ) (r : FamilyRegistered) → RegisterContract s.family i r
+    (s : FamilyStanding) (i : ℕ) (r : FamilyAnswer Checked) → RegisterContract s.family i r
     → FamilyMoves s (FamilyEvent.registers s.family i r) (record { family = r.family; kept = s.kept; book = s.book; length = s.length })
 always-registers s i r p = FamilyMoves.registers p
 
 pub always-serves :
-    (s : FamilyStanding) (x : StepInputs) (g : Family) (i : ℕ) (answer : Stepped) (kept : List ℕ) (scratch : List ℤ) (book : List ℕ)
-    → TurnContract s.family x (record { family = g; answer = Served i answer }) kept scratch book → x.kept ≡ s.kept i → x.book ≡ s.book i
-    → x.length ≡ s.length i → FamilyMoves s (FamilyEvent.turns s.family x (record { family = g; answer = Served i answer }) kept scratch book)
-    (record { family = g; kept = place s.kept i kept; book = place s.book i book; length = lengths_after s.length i (step_tells answer) })
+    (s : FamilyStanding) (x : StepInputs) (g : Family) (i : ℕ) (answer : Answered Stepped) (kept : List ℕ) (scratch : List ℤ) (book : List ℕ)
+    → TurnContract s.family x (record { family = g; answer = Some (record { member = i; stepped = answer }) }) kept scratch book → x.kept ≡ s.kept i → x.book ≡ s.book i
+    → x.length ≡ s.length i → FamilyMoves s (FamilyEvent.turns s.family x (record { family = g; answer = Some (record { member = i; stepped = answer }) }) kept scratch book)
+    (record { family = g; kept = place s.kept i kept; book = place s.book i book; length = lengths_after s.length i answer })
 always-serves s x g i answer kept scratch book p e d l = FamilyMoves.serves p (lends-whole s.kept i e) (lends-whole s.book i d) (λ a. l)
 
 pub always-idles :
     (s : FamilyStanding) (x : StepInputs) (g : Family) (kept : List ℕ) (scratch : List ℤ) (book : List ℕ)
-    → TurnContract s.family x (record { family = g; answer = Idle }) kept scratch book
-    → FamilyMoves s (FamilyEvent.turns s.family x (record { family = g; answer = Idle }) kept scratch book)
+    → TurnContract s.family x (record { family = g; answer = None }) kept scratch book
+    → FamilyMoves s (FamilyEvent.turns s.family x (record { family = g; answer = None }) kept scratch book)
     (record { family = g; kept = s.kept; book = s.book; length = s.length })
 always-idles s x g kept scratch book p = FamilyMoves.idles p

@@ -1,35 +1,28 @@
 -- What a member is told and holds depends on its own calls, on the family's scale and cells and, at each call, on the room that the others leave
 -- it, and on nothing else: of each operation, and of every history. Assumes nothing.
+use Rattle.std.specs.Prelude.{Ok, Err, Some}
 use mathlib.Core.Path.{◌≡◌, refl, sym, ◌∙◌, ap, ap₂, subst}
 use mathlib.Core.Logic.{◌≢◌}
 use mathlib.Core.List.{List, ◌∷◌, map}
 use Prim.Native.Nat.{ℕ, ◌*◌}
 use lib.IntN.{ℤ}
-use Rattle.numbers.specs.declared.Checked.{Checked}
-use Rattle.numbers.specs.declared.Checked.TheVariants.{Pass, Fail}
 use Rattle.numbers.specs.Lists.{sum}
-use Rattle.numbers.specs.Checks.{answered, after}
+use Rattle.numbers.specs.Checks.{Checked, Answered, answered, after}
 use Rattle.qlt_spec.specs.Field.{nodes, scratch_per_node, field}
 use Rattle.qlt_spec.specs.Masses.{tree_masses}
 use Rattle.qlt_spec.specs.Operation.{cleared}
 use Rattle.book_spec.specs.LentBook.{grown_buffer}
 use Rattle.kept_spec.specs.declared.Stepped.{Stepped}
+use Rattle.kept_spec.specs.declared.Balance.{Balance}
 use Rattle.kept_spec.specs.Open.{open_balance}
 use Rattle.kept_spec.specs.Step.{new_total, step_result, step_entry}
 use Rattle.kept_spec.specs.Run.{Run}
-use Rattle.kept_spec.proofs.OpenLaws.{open-tells-injective}
-use Rattle.kept_spec.proofs.StepLaws.{step-tells-injective}
 use Rattle.family_spec.specs.declared.Family.{Family}
-use Rattle.family_spec.specs.declared.Turned.TheVariants.{Served}
-use Rattle.family_spec.specs.declared.FamilyStarted.{FamilyStarted}
-use Rattle.family_spec.specs.declared.FamilyOpened.{FamilyOpened}
-use Rattle.family_spec.specs.declared.FamilyStepped.{FamilyStepped}
-use Rattle.family_spec.specs.declared.FamilyRegistered.{FamilyRegistered}
+use Rattle.family_spec.specs.declared.FamilyAnswer.{FamilyAnswer}
 use Rattle.family_spec.specs.Family.{open_with, member_at, begun, room, Terms, terms}
 use Rattle.family_spec.specs.Member.{check_opened, opening_verdict, StepInputs, call_of, stepping_verdict}
 use Rattle.family_spec.specs.Operations.{start_verdict, StartContract, open_member_verdict, OpenMemberContract, step_member_verdict, StepMemberContract, RegisterContract, TurnContract}
 use Rattle.family_spec.specs.History.{FamilyEvent, FamilyStanding, FamilyMoves, MemberEvent, calls_of, view, told, Held, held, tells_by, tells_all, holds_all, MemberMoves}
-use Rattle.family_spec.proofs.AnswerLaws.{start-tells-injective, register-tells-injective}
 use Rattle.family_spec.proofs.FamilyLaws.{Eight, begun-closed, put-here, put_other, Steady}
 use Rattle.family_spec.proofs.TurnLaws.{turn-serves}
 use Rattle.family_spec.proofs.MemberLaws.{open-number, step-number, register-members, open-steady, step-steady, register-steady, run-own}
@@ -38,10 +31,10 @@ use Rattle.family_spec.proofs.MemberLaws.{open-number, step-number, register-mem
 
 -- a start answers alike whatever the cap, and gives every member and the scale and cells alike
 pub start-alone :
-    (cap cap' scale cells : ℕ) (r r' : FamilyStarted) → StartContract cap scale cells r → StartContract cap' scale cells r'
+    (cap cap' scale cells : ℕ) (r r' : FamilyAnswer Checked) → StartContract cap scale cells r → StartContract cap' scale cells r'
     → (r.answer ≡ r'.answer) × ((terms r.family ≡ terms r'.family) × ((i : ℕ) → member_at r.family i ≡ member_at r'.family i))
 start-alone cap cap' scale cells r r' p q = (
-  start-tells-injective r.answer r'.answer (p.answers ∙ sym q.answers),
+  p.answers ∙ sym q.answers,
   (
     ap terms p.gives ∙ same-terms (start_verdict scale cells) ∙ sym (ap terms q.gives),
     λ i. ap (λ f. member_at f i) p.gives ∙ same-members (start_verdict scale cells) i ∙ sym (ap (λ f. member_at f i) q.gives),
@@ -49,12 +42,12 @@ start-alone cap cap' scale cells r r' p q = (
 )
   where
     same-terms : (v : Checked) → terms (after v (begun cap scale cells) (begun 0 0 0)) ≡ terms (after v (begun cap' scale cells) (begun 0 0 0))
-    same-terms Pass = refl
-    same-terms (Fail n p) = refl
+    same-terms (Ok tt) = refl
+    same-terms (Err r) = refl
 
     same-members : (v : Checked) (i : ℕ) → member_at (after v (begun cap scale cells) (begun 0 0 0)) i ≡ member_at (after v (begun cap' scale cells) (begun 0 0 0)) i
-    same-members Pass i = begun-closed cap scale cells i ∙ sym (begun-closed cap' scale cells i)
-    same-members (Fail n p) i = refl
+    same-members (Ok tt) i = begun-closed cap scale cells i ∙ sym (begun-closed cap' scale cells i)
+    same-members (Err r) i = refl
 
 -- two families that agree in scale and cells, in member i and in its room
 pub record Alike (i : ℕ) (f g : Family) : Type 0 where
@@ -65,11 +58,11 @@ pub record Alike (i : ℕ) (f g : Family) : Type 0 where
 module _ {f g : Family} {i : ℕ} (a : Alike i f g) (h : Eight f) (k : Eight g) where
   -- an opening with the same masses and scale answers alike and gives member i alike
   pub open-alone :
-      {kept : List ℕ} {n : ℕ} (r r' : FamilyOpened) → OpenMemberContract f i kept n r → OpenMemberContract g i kept n r'
+      {kept : List ℕ} {n : ℕ} (r r' : FamilyAnswer (Answered Balance)) → OpenMemberContract f i kept n r → OpenMemberContract g i kept n r'
       → (r.answer ≡ r'.answer) × (member_at r.family i ≡ member_at r'.family i)
   open-alone {kept} {n} r r' p q =
       let v : open_member_verdict f i kept n ≡ open_member_verdict g i kept n = λ z. opening_verdict (a.terms z) i (a.member z) (a.room z) kept n in (
-        open-tells-injective r.answer r'.answer (p.tells.answers ∙ ap (λ w. answered w (open_balance kept n)) v ∙ sym q.tells.answers),
+        p.tells.answers ∙ ap (λ w. answered w (open_balance kept n)) v ∙ sym q.tells.answers,
         ap (λ u. member_at u i) p.gives
             ∙ put-here f h i (open_with (sum kept)) (open_member_verdict f i kept n) (λ e. open-number f i kept n e)
             ∙ ap₂ (λ w m. after w (open_with (sum kept)) m) v a.member
@@ -78,14 +71,14 @@ module _ {f g : Family} {i : ℕ} (a : Alike i f g) (h : Eight f) (k : Eight g) 
 
   -- a step with the same inputs answers alike, leaves the same lists and gives member i alike
   pub step-alone :
-      {x : StepInputs} (r r' : FamilyStepped) {kept kept' : List ℕ} {scratch scratch' : List ℤ} {book book' : List ℕ} → StepMemberContract f i x r kept scratch book
+      {x : StepInputs} (r r' : FamilyAnswer (Answered Stepped)) {kept kept' : List ℕ} {scratch scratch' : List ℤ} {book book' : List ℕ} → StepMemberContract f i x r kept scratch book
       → StepMemberContract g i x r' kept' scratch' book'
       → (r.answer ≡ r'.answer)
       × ((kept ≡ kept') × ((scratch ≡ scratch') × ((book ≡ book') × (member_at r.family i ≡ member_at r'.family i))))
   step-alone {x} r r' p q =
       let v : step_member_verdict f i x ≡ step_member_verdict g i x = λ z. stepping_verdict (a.terms z) i (a.member z) (a.room z) x in
       let c : call_of (terms f) (member_at f i) x ≡ call_of (terms g) (member_at g i) x = λ z. call_of (a.terms z) (a.member z) x in (
-        step-tells-injective r.answer r'.answer (p.tells.tells.answers ∙ ap₂ (λ w d. answered w (step_result d)) v c ∙ sym q.tells.tells.answers),
+        p.tells.tells.answers ∙ ap₂ (λ w d. answered w (step_result d)) v c ∙ sym q.tells.tells.answers,
         (
           p.tells.tells.leaves.writes ∙ ap₂ (λ w d. after w (tree_masses (field x.lists) (new_total d)) x.kept) v c ∙ sym q.tells.tells.leaves.writes,
           (
@@ -103,16 +96,16 @@ module _ {f g : Family} {i : ℕ} (a : Alike i f g) (h : Eight f) (k : Eight g) 
 
   -- a registration answers alike and gives member i alike
   pub register-alone :
-      (r r' : FamilyRegistered) → RegisterContract f i r → RegisterContract g i r' → (r.answer ≡ r'.answer) × (member_at r.family i ≡ member_at r'.family i)
+      (r r' : FamilyAnswer Checked) → RegisterContract f i r → RegisterContract g i r' → (r.answer ≡ r'.answer) × (member_at r.family i ≡ member_at r'.family i)
   register-alone r r' p q = (
-    register-tells-injective r.answer r'.answer (p.answers ∙ ap (λ m. answered (check_opened i m) tt) a.member ∙ sym q.answers),
+    p.answers ∙ ap (λ m. answered (check_opened i m) tt) a.member ∙ sym q.answers,
     register-members p i ∙ a.member ∙ sym (register-members q i),
   )
 
   -- turns with the same inputs that serve member i answer alike, leave the same lists and give member i alike, whoever else waits
   pub turn_alone :
-      {x : StepInputs} {u v : Family} {b c : Stepped} {kept kept' : List ℕ} {scratch scratch' : List ℤ} {book book' : List ℕ}
-      → TurnContract f x (record { family = u; answer = Served i b }) kept scratch book → TurnContract g x (record { family = v; answer = Served i c }) kept' scratch' book'
+      {x : StepInputs} {u v : Family} {b c : Answered Stepped} {kept kept' : List ℕ} {scratch scratch' : List ℤ} {book book' : List ℕ}
+      → TurnContract f x (record { family = u; answer = Some (record { member = i; stepped = b }) }) kept scratch book → TurnContract g x (record { family = v; answer = Some (record { member = i; stepped = c }) }) kept' scratch' book'
       → (b ≡ c) × ((kept ≡ kept') × ((scratch ≡ scratch') × ((book ≡ book') × (member_at u i ≡ member_at v i))))
   turn_alone p q =
       let s = turn-serves p in
@@ -122,12 +115,12 @@ module _ {f g : Family} {i : ℕ} (a : Alike i f g) (h : Eight f) (k : Eight g) 
 
 -- and every call leaves the other members, the cap, the scale and the cells
 pub open-others :
-    {f : Family} {i : ℕ} {kept : List ℕ} {k : ℕ} (r : FamilyOpened) → Eight f → OpenMemberContract f i kept k r
+    {f : Family} {i : ℕ} {kept : List ℕ} {k : ℕ} (r : FamilyAnswer (Answered Balance)) → Eight f → OpenMemberContract f i kept k r
     → Steady f r.family × ((j : ℕ) → j ≢ i → member_at r.family j ≡ member_at f j)
 open-others {f} {i} {kept} {k} r h p = (open-steady p, λ j n. ap (λ g. member_at g j) p.gives ∙ put_other f h i (open_with (sum kept)) (open_member_verdict f i kept k) j n)
 
 pub step-others :
-    {f : Family} {i : ℕ} {x : StepInputs} (r : FamilyStepped) {kept : List ℕ} {scratch : List ℤ} {book : List ℕ} → Eight f → StepMemberContract f i x r kept scratch book
+    {f : Family} {i : ℕ} {x : StepInputs} (r : FamilyAnswer (Answered Stepped)) {kept : List ℕ} {scratch : List ℤ} {book : List ℕ} → Eight f → StepMemberContract f i x r kept scratch book
     → Steady f r.family × ((j : ℕ) → j ≢ i → member_at r.family j ≡ member_at f j)
 step-others {f} {i} {x} r h p = (
   step-steady p,
@@ -135,13 +128,13 @@ step-others {f} {i} {x} r h p = (
 )
 
 -- a registration leaves every member
-pub register-others : {f : Family} {i : ℕ} (r : FamilyRegistered) → RegisterContract f i r → Steady f r.family × ((j : ℕ) → member_at r.family j ≡ member_at f j)
+pub register-others : {f : Family} {i : ℕ} (r : FamilyAnswer Checked) → RegisterContract f i r → Steady f r.family × ((j : ℕ) → member_at r.family j ≡ member_at f j)
 register-others r p = (register-steady p, register-members p)
 
 -- a turn leaves every member but the one that it serves
 pub turn-others :
-    {f : Family} {x : StepInputs} {g : Family} {i : ℕ} {answer : Stepped} {kept : List ℕ} {scratch : List ℤ} {book : List ℕ} → Eight f
-    → TurnContract f x (record { family = g; answer = Served i answer }) kept scratch book → Steady f g × ((j : ℕ) → j ≢ i → member_at g j ≡ member_at f j)
+    {f : Family} {x : StepInputs} {g : Family} {i : ℕ} {answer : Answered Stepped} {kept : List ℕ} {scratch : List ℤ} {book : List ℕ} → Eight f
+    → TurnContract f x (record { family = g; answer = Some (record { member = i; stepped = answer }) }) kept scratch book → Steady f g × ((j : ℕ) → j ≢ i → member_at g j ≡ member_at f j)
 turn-others {f} h p =
     let t = turn-serves p in
     let z = step-others _ h t.contract in

@@ -1,5 +1,6 @@
 -- A family's history, seen from one member, is that member's history: its own calls do what the definitions say of it, and the calls of the
 -- others leave it alone. Assumes nothing.
+use Rattle.std.specs.Prelude.{Ok, Err, Some}
 use mathlib.Core.Path.{◌≡◌, refl, sym, ◌∙◌, ap, ap₂, subst}
 use mathlib.Core.Logic.{◌≢◌}
 use mathlib.Core.Bool.{Bool, true, false, cond}
@@ -8,30 +9,26 @@ use Prim.Native.Nat.{ℕ, ◌≤◌}
 use lib.Dec.{eqb}
 use lib.IntN.{ℤ}
 use borrow.Author.Tests.{eqb-true, eq-eqb}
-use Rattle.numbers.specs.declared.Checked.{Checked}
-use Rattle.numbers.specs.declared.Checked.TheVariants.{Pass, Fail}
 use Rattle.numbers.specs.Lists.{sum, written}
-use Rattle.numbers.specs.Checks.{Answered, accepted, refused, answered, after}
+use Rattle.numbers.specs.Checks.{Checked, Answered, answered, after}
 use Rattle.numbers.proofs.TestLaws.{not_so, clash}
 use Rattle.numbers.proofs.PartLaws.{part-whole}
 use Rattle.numbers.proofs.CheckLaws.{answered-accepted}
 use Rattle.qlt_spec.specs.Field.{field}
 use Rattle.qlt_spec.specs.Masses.{tree_masses}
 use Rattle.book_spec.specs.LentBook.{grown_buffer}
-use Rattle.book_spec.specs.StartBook.{book_start_tells, book_start_verdict}
+use Rattle.book_spec.specs.StartBook.{book_start_verdict}
 use Rattle.book_spec.specs.Book.{book, book_bytes}
 use Rattle.kept_spec.specs.declared.Balance.{Balance}
-use Rattle.kept_spec.specs.Open.{open_balance, open_tells}
-use Rattle.kept_spec.specs.Step.{StepCall, new_total, StepResult, step_result, step_tells, step_entry}
+use Rattle.kept_spec.specs.declared.Stepped.{Stepped}
+use Rattle.kept_spec.specs.Open.{open_balance}
+use Rattle.kept_spec.specs.Step.{StepCall, new_total, step_result, step_entry}
 use Rattle.kept_spec.specs.Run.{Run, collect}
 use Rattle.kept_spec.specs.Account.{Accepts}
 use Rattle.kept_spec.specs.BookRun.{length_after, StartEvent, StartPromised}
 use Rattle.kept_spec.proofs.RunLaws.{run-append}
 use Rattle.family_spec.specs.declared.Family.{Family}
-use Rattle.family_spec.specs.declared.Turned.TheVariants.{Served}
-use Rattle.family_spec.specs.declared.FamilyOpened.{FamilyOpened}
-use Rattle.family_spec.specs.declared.FamilyStepped.{FamilyStepped}
-use Rattle.family_spec.specs.declared.FamilyRegistered.{FamilyRegistered}
+use Rattle.family_spec.specs.declared.FamilyAnswer.{FamilyAnswer}
 use Rattle.family_spec.specs.Family.{open_with, member_at, room, Terms, terms, total_of}
 use Rattle.family_spec.specs.Waiting.{with_bit}
 use Rattle.family_spec.specs.Member.{StepInputs, call_of}
@@ -53,10 +50,10 @@ other_way : (i j : ℕ) → eqb j i ≡ false → eqb i j ≡ false
 other_way i j e = not_so (eqb i j) (λ t. clash (eq-eqb j i (sym (eqb-true i j t))) e)
 
 -- an accepted call is of one of the 8
-pub open-number : (f : Family) (i : ℕ) (kept : List ℕ) (k : ℕ) → open_member_verdict f i kept k ≡ Pass → i ≤ 7
+pub open-number : (f : Family) (i : ℕ) (kept : List ℕ) (k : ℕ) → open_member_verdict f i kept k ≡ Ok tt → i ≤ 7
 open-number f i kept k e = ((opening-accepts (terms f) i (member_at f i) (room f i) kept k).0 e).number
 
-pub step-number : (f : Family) (i : ℕ) (x : StepInputs) → step_member_verdict f i x ≡ Pass → i ≤ 7
+pub step-number : (f : Family) (i : ℕ) (x : StepInputs) → step_member_verdict f i x ≡ Ok tt → i ≤ 7
 step-number f i x e = ((stepping-accepts (terms f) i (member_at f i) (room f i) x).0 e).number
 
 -- ---- what stands in the members' places
@@ -68,30 +65,30 @@ place_other : {X : Type 0} (all : ℕ → X) (i j : ℕ) (x : X) → eqb i j ≡
 place_other all i j x e = ap (λ b. cond b x (all j)) (other_way j i e)
 
 place_if-here : (all : ℕ → List ℕ) (i : ℕ) (masses : List ℕ) (v : Checked) (b : Balance) → place_if (answered v b) all i masses i ≡ after v masses (all i)
-place_if-here all i masses Pass b = place_here all i masses
-place_if-here all i masses (Fail n p) b = refl
+place_if-here all i masses (Ok tt) b = place_here all i masses
+place_if-here all i masses (Err r) b = refl
 
 place_if-other : (all : ℕ → List ℕ) (i j : ℕ) (masses : List ℕ) (a : Answered Balance) → eqb i j ≡ false → place_if a all i masses j ≡ all j
-place_if-other all i j masses (accepted b) e = place_other all i j masses e
-place_if-other all i j masses (refused n p) e = refl
+place_if-other all i j masses (Ok b) e = place_other all i j masses e
+place_if-other all i j masses (Err r) e = refl
 
 -- what a step leaves in its member's place, and in the others': a part that was lent and left as it was, or the whole
 lends-here :
-    {all all' : ℕ → List ℕ} {i : ℕ} {given left : List ℕ} (v : Checked) (r : StepResult) (masses : List ℕ)
+    {all all' : ℕ → List ℕ} {i : ℕ} {given left : List ℕ} (v : Checked) (r : Stepped) (masses : List ℕ)
     → Lends all i given (answered v r) left all' → left ≡ after v masses given → all' i ≡ after v masses (all i)
 lends-here {all} {all'} {i} {given} {left} v r masses l p = by-place v left all' l p
   where
     by-place : (v : Checked) (left : List ℕ) (all' : ℕ → List ℕ) → Lends all i given (answered v r) left all' → left ≡ after v masses given → all' i ≡ after v masses (all i)
-    by-place Pass left all' (Lends.own before rest part whole) p =
+    by-place (Ok tt) left all' (Lends.own before rest part whole) p =
         let w = part-whole before given rest (whole tt ∙ part) in
         place_here all i (before ++ (left ++ rest)) ∙ ap₂ (λ a b. a ++ (left ++ b)) w.0 w.1 ∙ append-nil left ∙ p
-    by-place (Fail n q) left all' (Lends.own before rest part whole) p =
+    by-place (Err r) left all' (Lends.own before rest part whole) p =
         place_here all i (before ++ (left ++ rest)) ∙ ap (λ l. before ++ (l ++ rest)) p ∙ sym part
-    by-place Pass left all' (Lends.elsewhere h) p = absurd (h tt)
-    by-place (Fail n q) left all' (Lends.elsewhere h) p = refl
+    by-place (Ok tt) left all' (Lends.elsewhere h) p = absurd (h tt)
+    by-place (Err r) left all' (Lends.elsewhere h) p = refl
 
 lends-other :
-    {all all' : ℕ → List ℕ} {i : ℕ} {given left : List ℕ} {told : Answered StepResult} (j : ℕ) → eqb i j ≡ false → Lends all i given told left all'
+    {all all' : ℕ → List ℕ} {i : ℕ} {given left : List ℕ} {told : Answered Stepped} (j : ℕ) → eqb i j ≡ false → Lends all i given told left all'
     → all' j ≡ all j
 lends-other {all} {all'} {i} {given} {left} {told} j e l = by-place left all' l
   where
@@ -100,11 +97,11 @@ lends-other {all} {all'} {i} {given} {left} {told} j e l = by-place left all' l
     by-place left all' (Lends.elsewhere h) = refl
 
 -- the length of a book
-length-by : (v : Checked) (r : StepResult) (l : ℕ) → length_after (answered v r) l ≡ after v r.length l
-length-by Pass r l = refl
-length-by (Fail n p) r l = refl
+length-by : (v : Checked) (r : Stepped) (l : ℕ) → length_after (answered v r) l ≡ after v r.length l
+length-by (Ok tt) r l = refl
+length-by (Err e) r l = refl
 
-lends-own : {all all' : ℕ → List ℕ} {i : ℕ} {given left : List ℕ} {told : Answered StepResult} → Lends all i given told left all' → Accepts told → given ≡ all i
+lends-own : {all all' : ℕ → List ℕ} {i : ℕ} {given left : List ℕ} {told : Answered Stepped} → Lends all i given told left all' → Accepts told → given ≡ all i
 lends-own {all} {all'} {i} {given} {left} {told} l a = by-place left all' l
   where
     by-place : (left : List ℕ) (all' : ℕ → List ℕ) → Lends all i given told left all' → given ≡ all i
@@ -112,7 +109,7 @@ lends-own {all} {all'} {i} {given} {left} {told} l a = by-place left all' l
     by-place left all' (Lends.elsewhere h) = absurd (h a)
 
 -- a registration leaves every member
-pub register-members : {f : Family} {i : ℕ} {r : FamilyRegistered} → RegisterContract f i r → (j : ℕ) → member_at r.family j ≡ member_at f j
+pub register-members : {f : Family} {i : ℕ} {r : FamilyAnswer Checked} → RegisterContract f i r → (j : ℕ) → member_at r.family j ≡ member_at f j
 register-members {f} {i} p j = ap (λ g. member_at g j) p.gives ∙ schedule-members f (with_bit f.waiting i) f.from (register_verdict f i) j
 
 -- ---- one call
@@ -127,9 +124,9 @@ own-case {t} {i} {h} false m o = subst (λ z. Run (MemberMoves t i) h [] z) (sym
 
 -- opening
 opens-own :
-    (s : FamilyStanding) {i : ℕ} {kept : List ℕ} {k : ℕ} {r : FamilyOpened} → Eight s.family → OpenMemberContract s.family i kept k r
+    (s : FamilyStanding) {i : ℕ} {kept : List ℕ} {k : ℕ} {r : FamilyAnswer (Answered Balance)} → Eight s.family → OpenMemberContract s.family i kept k r
     → MemberMoves (terms s.family) i (held s i) (MemberEvent.opens (member_at s.family i) (room s.family i) kept k r.answer)
-    (held (record { family = r.family; kept = place_if (open_tells r.answer) s.kept i kept; book = s.book; length = s.length }) i)
+    (held (record { family = r.family; kept = place_if r.answer s.kept i kept; book = s.book; length = s.length }) i)
 unfolding tells_by holds_by
 opens-own s {i} {kept} {k} {r} eight p =
     record {
@@ -149,11 +146,11 @@ opens-own s {i} {kept} {k} {r} eight p =
 
 -- a step
 steps-own :
-    (s : FamilyStanding) {i : ℕ} {x : StepInputs} {r : FamilyStepped} {kept : List ℕ} {scratch : List ℤ} {book : List ℕ} {all books : ℕ → List ℕ} → Eight s.family
-    → StepMemberContract s.family i x r kept scratch book → Lends s.kept i x.kept (step_tells r.answer) kept all
-    → Lends s.book i x.book (step_tells r.answer) book books → ToldLength s.length i x.length (step_tells r.answer)
+    (s : FamilyStanding) {i : ℕ} {x : StepInputs} {r : FamilyAnswer (Answered Stepped)} {kept : List ℕ} {scratch : List ℤ} {book : List ℕ} {all books : ℕ → List ℕ} → Eight s.family
+    → StepMemberContract s.family i x r kept scratch book → Lends s.kept i x.kept r.answer kept all
+    → Lends s.book i x.book r.answer book books → ToldLength s.length i x.length r.answer
     → MemberMoves (terms s.family) i (held s i) (MemberEvent.steps (member_at s.family i) (room s.family i) x r.answer kept scratch book)
-    (held (record { family = r.family; kept = all; book = books; length = lengths_after s.length i (step_tells r.answer) }) i)
+    (held (record { family = r.family; kept = all; book = books; length = lengths_after s.length i r.answer }) i)
 unfolding tells_by holds_by
 steps-own s {i} {x} {r} {kept} {book = book} {all} {books} eight p q u l =
     record {
@@ -165,7 +162,7 @@ steps-own s {i} {x} {r} {kept} {book = book} {all} {books} eight p q u l =
           (ap (λ g. member_at g i) p.gives ∙ put-here s.family eight i (open_with (new_total c)) v (λ e. step-number s.family i x e))
           (lends-here v (step_result c) (tree_masses (field x.lists) (new_total c)) (subst (λ a. Lends s.kept i x.kept a kept all) p.tells.tells.answers q) p.tells.tells.leaves.writes)
           (lends-here v (step_result c) (grown_buffer x.book x.length (step_entry c)) (subst (λ a. Lends s.book i x.book a book books) p.tells.tells.answers u) p.tells.files)
-          (place_here s.length i (length_after (step_tells r.answer) (s.length i))
+          (place_here s.length i (length_after r.answer (s.length i))
           ∙ ap (λ a. length_after a (s.length i)) p.tells.tells.answers
           ∙ length-by v (step_result c) (s.length i));
       lent = λ a. record { kept = lends-own q a; book = lends-own u a; length = l a };
@@ -179,7 +176,7 @@ steps-own s {i} {x} {r} {kept} {book = book} {all} {books} eight p q u l =
 
 -- a registration: the member is told, and holds what it held
 registers-own :
-    (s : FamilyStanding) {i : ℕ} {r : FamilyRegistered} → RegisterContract s.family i r
+    (s : FamilyStanding) {i : ℕ} {r : FamilyAnswer Checked} → RegisterContract s.family i r
     → MemberMoves (terms s.family) i (held s i) (MemberEvent.registers (member_at s.family i) r.answer)
     (held (record { family = r.family; kept = s.kept; book = s.book; length = s.length }) i)
 unfolding tells_by holds_by
@@ -188,7 +185,7 @@ registers-own s {i} p =
 
 -- a start of its book
 books-own :
-    (s : FamilyStanding) (i : ℕ) {e : StartEvent} {l : ℕ} → StartPromised e → book_start_tells e.answer ≡ accepted l
+    (s : FamilyStanding) (i : ℕ) {e : StartEvent} {l : ℕ} → StartPromised e → e.answer ≡ Ok l
     → (member_at s.family i).opened ≡ true → e.total ≡ total_of s.family i
     → MemberMoves (terms s.family) i (held s i) (MemberEvent.books (member_at s.family i) e)
     (held (record { family = s.family; kept = s.kept; book = place s.book i e.left; length = place s.length i l }) i)
@@ -217,14 +214,14 @@ books-own s i {e} {l} p t o f =
 
 -- ---- what no call changes
 
-pub open-steady : {f : Family} {i : ℕ} {kept : List ℕ} {k : ℕ} {r : FamilyOpened} → OpenMemberContract f i kept k r → Steady f r.family
+pub open-steady : {f : Family} {i : ℕ} {kept : List ℕ} {k : ℕ} {r : FamilyAnswer (Answered Balance)} → OpenMemberContract f i kept k r → Steady f r.family
 open-steady {f} {i} {kept} {k} p = subst (Steady f) (sym p.gives) (put-steady f i (open_with (sum kept)) (open_member_verdict f i kept k))
 
 pub step-steady :
-    {f : Family} {i : ℕ} {x : StepInputs} {r : FamilyStepped} {kept : List ℕ} {scratch : List ℤ} {book : List ℕ} → StepMemberContract f i x r kept scratch book → Steady f r.family
+    {f : Family} {i : ℕ} {x : StepInputs} {r : FamilyAnswer (Answered Stepped)} {kept : List ℕ} {scratch : List ℤ} {book : List ℕ} → StepMemberContract f i x r kept scratch book → Steady f r.family
 step-steady {f} {i} {x} p = subst (Steady f) (sym p.gives) (put-steady f i (open_with (new_total (call_of (terms f) (member_at f i) x))) (step_member_verdict f i x))
 
-pub register-steady : {f : Family} {i : ℕ} {r : FamilyRegistered} → RegisterContract f i r → Steady f r.family
+pub register-steady : {f : Family} {i : ℕ} {r : FamilyAnswer Checked} → RegisterContract f i r → Steady f r.family
 register-steady {f} {i} p = subst (Steady f) (sym p.gives) (schedule-steady f (with_bit f.waiting i) f.from (register_verdict f i))
 
 -- ---- every call
@@ -242,24 +239,24 @@ moves-steady (FamilyMoves.books p t o f) = record { size = refl; cap = refl; ter
 
 -- a step, by itself or in a turn
 steps-run :
-    (i j : ℕ) (s : FamilyStanding) {x : StepInputs} {r : FamilyStepped} {kept : List ℕ} {scratch : List ℤ} {book : List ℕ} {all books : ℕ → List ℕ} → Eight s.family
-    → StepMemberContract s.family j x r kept scratch book → Lends s.kept j x.kept (step_tells r.answer) kept all
-    → Lends s.book j x.book (step_tells r.answer) book books → ToldLength s.length j x.length (step_tells r.answer)
+    (i j : ℕ) (s : FamilyStanding) {x : StepInputs} {r : FamilyAnswer (Answered Stepped)} {kept : List ℕ} {scratch : List ℤ} {book : List ℕ} {all books : ℕ → List ℕ} → Eight s.family
+    → StepMemberContract s.family j x r kept scratch book → Lends s.kept j x.kept r.answer kept all
+    → Lends s.book j x.book r.answer book books → ToldLength s.length j x.length r.answer
     → Run (MemberMoves (terms s.family) i) (held s i) (only (eqb j i) (MemberEvent.steps (member_at s.family j) (room s.family j) x r.answer kept scratch book))
-    (held (record { family = r.family; kept = all; book = books; length = lengths_after s.length j (step_tells r.answer) }) i)
+    (held (record { family = r.family; kept = all; book = books; length = lengths_after s.length j r.answer }) i)
 steps-run i j s {x} {r} {kept} {scratch} {book} {all} {books} h p q u l =
     own-case (eqb j i)
     (λ b.
     subst
     (λ n.
     MemberMoves (terms s.family) n (held s n) (MemberEvent.steps (member_at s.family j) (room s.family j) x r.answer kept scratch book)
-    (held (record { family = r.family; kept = all; book = books; length = lengths_after s.length j (step_tells r.answer) }) n))
+    (held (record { family = r.family; kept = all; book = books; length = lengths_after s.length j r.answer }) n))
     (eqb-true j i b) (steps-own s h p q u l))
     (λ b.
     held-path
     (ap (λ g. member_at g i) p.gives
     ∙ put_other s.family h j (open_with (new_total (call_of (terms s.family) (member_at s.family j) x))) (step_member_verdict s.family j x) i (other-number i j b))
-    (lends-other i b q) (lends-other i b u) (place_other s.length j i (length_after (step_tells r.answer) (s.length j)) b))
+    (lends-other i b q) (lends-other i b u) (place_other s.length j i (length_after r.answer (s.length j)) b))
 
 -- a call of the family is a call of the member that it names, and leaves every other member as it was
 pub moves-own : (i : ℕ) {s t : FamilyStanding} {e : FamilyEvent} → Eight s.family → FamilyMoves s e t → Run (MemberMoves (terms s.family) i) (held s i) (own_of i e) (held t i)
@@ -269,11 +266,11 @@ moves-own i {s} h (FamilyMoves.opens {i = j} {kept} {k} {r} p) =
     subst
     (λ n.
     MemberMoves (terms s.family) n (held s n) (MemberEvent.opens (member_at s.family j) (room s.family j) kept k r.answer)
-    (held (record { family = r.family; kept = place_if (open_tells r.answer) s.kept j kept; book = s.book; length = s.length }) n))
+    (held (record { family = r.family; kept = place_if r.answer s.kept j kept; book = s.book; length = s.length }) n))
     (eqb-true j i b) (opens-own s h p))
     (λ b.
     held-path (ap (λ g. member_at g i) p.gives ∙ put_other s.family h j (open_with (sum kept)) (open_member_verdict s.family j kept k) i (other-number i j b))
-    (place_if-other s.kept j i kept (open_tells r.answer) b) refl refl)
+    (place_if-other s.kept j i kept r.answer b) refl refl)
 moves-own i {s} h (FamilyMoves.steps {i = j} p q u l) = steps-run i j s h p q u l
 moves-own i {s} h (FamilyMoves.registers {i = j} {r} p) =
     own-case (eqb j i)
@@ -288,8 +285,8 @@ moves-own i {s} h (FamilyMoves.serves {x = x} {g} {i = j} {answer} {kept} {scrat
     let t = turn-serves p in
     subst
     (λ f.
-    Run (MemberMoves (terms s.family) i) (held s i) (own_of i (FamilyEvent.turns s.family x (record { family = g; answer = Served j answer }) kept scratch book))
-    (held (record { family = f; kept = all; book = books; length = lengths_after s.length j (step_tells answer) }) i))
+    Run (MemberMoves (terms s.family) i) (held s i) (own_of i (FamilyEvent.turns s.family x (record { family = g; answer = Some (record { member = j; stepped = answer }) }) kept scratch book))
+    (held (record { family = f; kept = all; book = books; length = lengths_after s.length j answer }) i))
     (sym t.ends) (steps-run i j s h t.contract q u l)
 moves-own i {s} h (FamilyMoves.idles p) =
     subst (λ f. Run (MemberMoves (terms s.family) i) (held s i) [] (held (record { family = f; kept = s.kept; book = s.book; length = s.length }) i)) (sym (turn-idles p).gives) Run.done

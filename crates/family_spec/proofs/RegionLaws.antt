@@ -1,20 +1,19 @@
 -- Edits stay in their region, of a member's steps and of turns, from their contracts alone: Step's law with the checks of a family put in. Assumes
 -- nothing.
+use Rattle.std.specs.Prelude.{Ok, Some, Option}
 use mathlib.Core.Path.{◌≡◌, sym, ◌∙◌, ap, ap₂, subst}
 use mathlib.Core.List.{List, [], ◌∷◌}
 use Prim.Native.Nat.{ℕ}
 use lib.IntN.{ℤ}
-use Rattle.numbers.specs.declared.Checked.TheVariants.{Pass}
-use Rattle.numbers.specs.Checks.{after, both}
-use Rattle.qlt_spec.specs.Field.{cells}
+use Rattle.numbers.specs.Checks.{Answered, after, both}
 use Rattle.qlt_spec.specs.Operation.{ReconstructFits}
+use Rattle.kept_spec.specs.declared.Stepped.{Stepped}
 use Rattle.kept_spec.specs.Step.{StepCall, repair_call}
 use Rattle.kept_spec.proofs.StepLaws.{step-accepts, fits-repair}
 use Rattle.kept_spec.proofs.RegionLaws.{new-same, step-verdict-same, steps-same}
 use Rattle.family_spec.specs.declared.Family.{Family}
-use Rattle.family_spec.specs.declared.FamilyStepped.{FamilyStepped}
-use Rattle.family_spec.specs.declared.FamilyTurned.{FamilyTurned}
-use Rattle.family_spec.specs.declared.NextMember.TheVariants as next
+use Rattle.family_spec.specs.declared.Served.{Served}
+use Rattle.family_spec.specs.declared.FamilyAnswer.{FamilyAnswer}
 use Rattle.family_spec.specs.Family.{member_at, room, terms, put, open_with}
 use Rattle.family_spec.specs.Member.{StepInputs, call_of, check_opened, check_same_cells, check_source}
 use Rattle.family_spec.specs.Operations.{step_member_verdict, StepMemberContract, next_member, serve, ServingTurn, TurnBy, TurnContract}
@@ -37,7 +36,7 @@ module _ (f : Family) (i : ℕ) (x y : StepInputs) {v : ℕ} (h : EditedInputs f
       ∙ sym (verdict-is f i y)
 
   pub member-region :
-      {r q : FamilyStepped} {xs ys book book' : List ℕ} {scratch scratch' : List ℤ}
+      {r q : FamilyAnswer (Answered Stepped)} {xs ys book book' : List ℕ} {scratch scratch' : List ℤ}
       → StepMemberContract f i x r xs scratch book → StepMemberContract f i y q ys scratch' book' → SameMemberSteps x v r q xs ys book book'
   member-region {r} {q} k l =
       record {
@@ -46,12 +45,12 @@ module _ (f : Family) (i : ℕ) (x y : StepInputs) {v : ℕ} (h : EditedInputs f
             k.gives ∙ (λ j. after (member-verdict-same j) (put f i (open_with (new-same c d h j))) f) ∙ sym l.gives;
       }
     where
-      fits : step_member_verdict f i x ≡ Pass → ReconstructFits (repair_call c)
+      fits : step_member_verdict f i x ≡ Ok tt → ReconstructFits (repair_call c)
       fits e = fits-repair c ((step-accepts c).0 (stepping-steps (terms f) i (member_at f i) (room f i) x e))
 
   -- of two turns that serve it
   pub turn-region :
-      {r q : FamilyTurned} {xs ys book book' : List ℕ} {scratch scratch' : List ℤ} → next_member f ≡ next.Member i
+      {r q : FamilyAnswer (Option Served)} {xs ys book book' : List ℕ} {scratch scratch' : List ℤ} → next_member f ≡ Some i
       → TurnContract f x r xs scratch book → TurnContract f y q ys scratch' book' → SameTurns x v i r q xs ys book book'
   turn-region {r} {q} {xs} {ys} {book} {book'} {scratch} {scratch'} e k l =
       let a : ServingTurn f i x r xs scratch book = subst (λ n. TurnBy n f x r xs scratch book) e k.serves_next in

@@ -1,5 +1,6 @@
 -- What each verdict of a family means: passed exactly if every rule holds, refused with a number at a place exactly if those before it hold and
 -- this one is broken there; what a family accepts, Open and Step accept. Assumes nothing.
+use Rattle.std.specs.Prelude.{Ok, Err}
 use mathlib.Core.Path.{◌≡◌, refl, sym, ◌∙◌, ap, subst}
 use mathlib.Core.Logic.{◌⊎◌, inl, inr, ⊎_elim, ◌↔◌}
 use mathlib.Core.Bool.{Bool, true, false, not, ◌||◌, or-true}
@@ -9,23 +10,20 @@ use native.Mathlib.Omega.{arith}
 use lib.IntN.{ℤ, pos}
 use lib.Signed.{◌≤ℤ◌}
 use lib.ListN.{length}
-use Rattle.numbers.specs.declared.Checked.{Checked}
-use Rattle.numbers.specs.declared.Checked.TheVariants.{Pass, Fail}
 use Rattle.numbers.specs.Lists.{sum, All}
-use Rattle.numbers.specs.Checks.{first, Decides, rule, DecidesAll, Holds, Broken, RefuseWith, Extends, OneOf, numbers_of, both}
+use Rattle.numbers.specs.Checks.{Checked, refused, first, Decides, rule, DecidesAll, Holds, Broken, RefuseWith, Extends, OneOf, numbers_of, both}
 use Rattle.numbers.proofs.TestLaws.{and-means, le-means, eq-means}
 use Rattle.numbers.proofs.SignedLaws.{parts-le, le_z-means}
-use Rattle.numbers.proofs.CheckLaws.{both-pass, first-append, decides-unless, decides-then, decides-append, decides-none, count-decides, scale-decides, on}
+use Rattle.numbers.proofs.CheckLaws.{both-pass, first-append, decides-unless, decides-then, decides-append, decides-none, count-decides, scale-decides, on, refused-number}
 use Rattle.numbers.proofs.ChainLaws.{Passes, pass_all, all_pass, extends-pass, extends-fail, refuse-with, are-of, one-append}
 use Rattle.qlt_spec.specs.Field.{cells}
 use Rattle.qlt_spec.specs.Operation.{shape_rules, value_rules}
-use Rattle.book_spec.specs.Book.{book}
 use Rattle.book_spec.specs.LentBook.{lent_rules}
 use Rattle.book_spec.proofs.LentLaws.{lent-numbers, lent-refuse-with}
 use Rattle.kept_spec.specs.Open.{open_checks, open_verdict_with, open_rules_with, OpenFits}
 use Rattle.kept_spec.specs.Step.{new_total, check_same_scale, step_checks, step_verdict_with, scale_rule}
 use Rattle.kept_spec.proofs.OpenLaws.{open-decides-with, open-accepts}
-use Rattle.kept_spec.proofs.StepLaws.{same-scale-decides, step-decides-with, step-accepts, with-extends, with-full, number_of}
+use Rattle.kept_spec.proofs.StepLaws.{same-scale-decides, step-decides-with, step-accepts, with-extends, with-full}
 use Rattle.family_spec.specs.declared.Member.{Member}
 use Rattle.family_spec.specs.Family.{Terms}
 use Rattle.family_spec.specs.Member.{check_closed, check_opened, check_same_cells, check_room, check_source, opening_checks, opening_verdict, StepInputs, call_of, stepping_checks, stepping_verdict}
@@ -80,13 +78,13 @@ start_fits scale cells = (
   λ f. ((f.some, f.few), (f.scale_small, tt)),
 )
 
-pub start-accepts : (scale cells : ℕ) → (start_verdict scale cells ≡ Pass) ↔ StartFits scale cells
+pub start-accepts : (scale cells : ℕ) → (start_verdict scale cells ≡ Ok tt) ↔ StartFits scale cells
 start-accepts scale cells = (
   λ e. (start_fits scale cells).0 ((start-decides scale cells).passes.0 e),
   λ f. (start-decides scale cells).passes.1 ((start_fits scale cells).1 f),
 )
 
-pub start-refuses : (scale cells number place : ℕ) → (start_verdict scale cells ≡ Fail number place) ↔ Broken (start_rules scale cells) number place
+pub start-refuses : (scale cells number place : ℕ) → (start_verdict scale cells ≡ refused number place) ↔ Broken (start_rules scale cells) number place
 start-refuses scale cells = (start-decides scale cells).fails
 
 pub start-numbers : (scale cells : ℕ) → RefuseWith (start_rules scale cells) (1 ∷ 9 ∷ [])
@@ -127,12 +125,12 @@ module _ (t : Terms) (i : ℕ) (m : Member) (space : ℤ) (kept : List ℕ) (k :
       (Extends.extra (λ n p e. inr (inr (inr (((room-decides (sum kept) space).fails n p).0 e).0))) Extends.end))))))
 
   -- what the family accepts, Open accepts
-  pub opening-opens : v ≡ Pass → alone-open.open_verdict kept k ≡ Pass
+  pub opening-opens : v ≡ Ok tt → alone-open.open_verdict kept k ≡ Ok tt
   unfolding opening_verdict alone-open.open_verdict
   opening-opens e = extends-pass opening-extends e
 
   -- what it refuses with a number that is none of its own, Open refuses so
-  pub opening-refused : (number place : ℕ) → v ≡ Fail number place → OpeningOwn number ⊎ (alone-open.open_verdict kept k ≡ Fail number place)
+  pub opening-refused : (number place : ℕ) → v ≡ refused number place → OpeningOwn number ⊎ (alone-open.open_verdict kept k ≡ refused number place)
   unfolding opening_verdict alone-open.open_verdict
   opening-refused number place e = extends-fail opening-extends e
 
@@ -160,13 +158,13 @@ module _ (t : Terms) (i : ℕ) (m : Member) (space : ℤ) (kept : List ℕ) (k :
     ),
   )
 
-  pub opening-accepts : (v ≡ Pass) ↔ OpeningFits t i m space kept k
+  pub opening-accepts : (v ≡ Ok tt) ↔ OpeningFits t i m space kept k
   opening-accepts = (
     λ e. opening-fits (opening-decides.passes.0 e) ((open-accepts kept k).0 (opening-opens e)),
     λ f. opening-decides.passes.1 (opening-holds f),
   )
 
-  pub opening-refuses : (number place : ℕ) → (v ≡ Fail number place) ↔ Broken (opening_rules t i m space kept k) number place
+  pub opening-refuses : (number place : ℕ) → (v ≡ refused number place) ↔ Broken (opening_rules t i m space kept k) number place
   opening-refuses = opening-decides.fails
 
   pub opening-numbers : RefuseWith (opening_rules t i m space kept k) (19 ∷ 1 ∷ 9 ∷ 17 ∷ 13 ∷ 20 ∷ [])
@@ -176,10 +174,10 @@ module _ (t : Terms) (i : ℕ) (m : Member) (space : ℤ) (kept : List ℕ) (k :
 
 -- refused with a number that the first of two checks never has, the first passes and the second is refused so
 both-fails :
-    (u v : Checked) (k n p : ℕ) → ((number place : ℕ) → u ≡ Fail number place → number ≡ k) → (n ≡ k → ⊥) → both u v ≡ Fail n p
-    → (u ≡ Pass) × (v ≡ Fail n p)
-both-fails Pass v k n p h o e = (refl, e)
-both-fails (Fail m q) v k n p h o e = absurd (o (sym (number_of e) ∙ h m q refl))
+    (u v : Checked) (k n p : ℕ) → ((number place : ℕ) → u ≡ refused number place → number ≡ k) → (n ≡ k → ⊥) → both u v ≡ refused n p
+    → (u ≡ Ok tt) × (v ≡ refused n p)
+both-fails (Ok tt) v k n p h o e = (refl, e)
+both-fails (Err r) v k n p h o e = absurd (o (sym (refused-number e) ∙ h r.number r.place refl))
 
 -- the family's own numbers: 1 of another n
 abbrev pub SteppingOwn : ℕ → Type 0
@@ -211,12 +209,12 @@ module _ (t : Terms) (i : ℕ) (m : Member) (space : ℤ) (x : StepInputs) where
       (with-extends c (source ∷ []) (All.more (λ n p e. inr (inr (((source-decides x.source (new_total c) space).fails n p).0 e).0)) All.none)))
 
   -- what the family accepts, Step accepts
-  pub stepping-steps : w ≡ Pass → alone-step.step_verdict c ≡ Pass
+  pub stepping-steps : w ≡ Ok tt → alone-step.step_verdict c ≡ Ok tt
   unfolding stepping_verdict alone-step.step_verdict
   stepping-steps e = extends-pass stepping-extends e
 
   -- what it refuses with a number that is none of its own, Step refuses so
-  pub stepping-refused : (number place : ℕ) → w ≡ Fail number place → SteppingOwn number ⊎ (alone-step.step_verdict c ≡ Fail number place)
+  pub stepping-refused : (number place : ℕ) → w ≡ refused number place → SteppingOwn number ⊎ (alone-step.step_verdict c ≡ refused number place)
   unfolding stepping_verdict alone-step.step_verdict
   stepping-refused number place e = extends-fail stepping-extends e
 
@@ -239,14 +237,14 @@ module _ (t : Terms) (i : ℕ) (m : Member) (space : ℤ) (x : StepInputs) where
       (All.more d (All.more q (All.more e (All.more f (All.more g (All.more h
       (All.more ((source-decides x.source (new_total c) space).passes.1 z.within) r))))))))
 
-  pub stepping-accepts : (w ≡ Pass) ↔ SteppingFits t i m space x
+  pub stepping-accepts : (w ≡ Ok tt) ↔ SteppingFits t i m space x
   unfolding stepping_verdict alone-step.step_verdict
   stepping-accepts = (
     λ e. stepping-fits (pass_all (stepping_checks t i m space x) e) ((step-accepts c).0 (stepping-steps e)),
     λ f. all_pass (stepping_checks t i m space x) (stepping-passes f (pass_all (step_checks c) ((step-accepts c).1 f.stepping))),
   )
 
-  pub stepping-refuses : (number place : ℕ) → (w ≡ Fail number place) ↔ Broken (stepping_rules t i m space x) number place
+  pub stepping-refuses : (number place : ℕ) → (w ≡ refused number place) ↔ Broken (stepping_rules t i m space x) number place
   stepping-refuses = stepping-decides.fails
 
   pub stepping-numbers :
@@ -272,7 +270,7 @@ module _ (t : Terms) (i : ℕ) (m : Member) (space : ℤ) (x : StepInputs) where
   )
 
   -- 21 comes last, and only where every other check has passed
-  pub stepping-full : (place : ℕ) → (w ≡ Fail 21 place) ↔ ((place ≡ 0) × SteppingFull t i m space x)
+  pub stepping-full : (place : ℕ) → (w ≡ refused 21 place) ↔ ((place ≡ 0) × SteppingFull t i m space x)
   unfolding stepping_verdict step_verdict_with
   stepping-full place =
       let d = with-full c source 20 (source-decides x.source (new_total c) space) (λ q. omega arith) place in
@@ -303,13 +301,13 @@ module _ (i : ℕ) (m : Member) where
   pub registering-decides : DecidesAll (check_opened i m) (registering_rules i m)
   registering-decides = subst (λ v. DecidesAll v (registering_rules i m)) (both-pass (check_opened i m)) (decides-then _ _ _ _ (opened-decides i m) decides-none)
 
-  pub registering-accepts : (check_opened i m ≡ Pass) ↔ RegisteringFits i m
+  pub registering-accepts : (check_opened i m ≡ Ok tt) ↔ RegisteringFits i m
   registering-accepts = (
     λ e. let h = (opened-decides i m).passes.0 e in record { number = h.0; is_open = h.1 },
     λ f. (opened-decides i m).passes.1 (f.number, f.is_open),
   )
 
-  pub registering-refuses : (number place : ℕ) → (check_opened i m ≡ Fail number place) ↔ Broken (registering_rules i m) number place
+  pub registering-refuses : (number place : ℕ) → (check_opened i m ≡ refused number place) ↔ Broken (registering_rules i m) number place
   registering-refuses = registering-decides.fails
 
   pub registering-numbers : RefuseWith (registering_rules i m) (19 ∷ [])

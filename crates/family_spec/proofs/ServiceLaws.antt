@@ -1,5 +1,6 @@
 -- From a moment when a member waits, the turns serve members that are all different until it is served, within 8 turns; where the search begins;
 -- and only open members wait. Assumes nothing.
+use Rattle.std.specs.Prelude.{Ok, Err, Some, None, Option}
 use mathlib.Core.Path.{◌≡◌, refl, sym, ◌∙◌, ap, subst}
 use mathlib.Core.Logic.{◌≢◌, ◌⊎◌, inl, inr, ⊎_elim}
 use mathlib.Core.Bool.{true, not, ◌&&◌, ◌||◌, or-true}
@@ -11,33 +12,25 @@ use lib.Dec.{eqb}
 use lib.IntN.{ℤ}
 use lib.ListN.{length, length-append}
 use borrow.Author.Tests.{eqb-true, eq-eqb}
-use Rattle.numbers.specs.declared.Checked.{Checked}
-use Rattle.numbers.specs.declared.Checked.TheVariants.{Pass, Fail}
 use Rattle.numbers.specs.Lists.{sum, All}
-use Rattle.numbers.specs.Checks.{Answered, accepted, refused, answered, after}
+use Rattle.numbers.specs.Checks.{Checked, Answered, refused, answered, after}
 use Rattle.numbers.proofs.TestLaws.{Tested, holds, fails, tested, not_so, clash, and_second}
 use Rattle.kept_spec.specs.declared.Stepped.{Stepped}
-use Rattle.kept_spec.specs.Step.{new_total, step_tells}
+use Rattle.kept_spec.specs.declared.Balance.{Balance}
+use Rattle.kept_spec.specs.Step.{new_total}
 use Rattle.kept_spec.specs.Run.{Run, collect}
 use Rattle.kept_spec.proofs.RunLaws.{all_map}
 use Rattle.family_spec.specs.declared.Member.{Member}
 use Rattle.family_spec.specs.declared.Family.{Family}
-use Rattle.family_spec.specs.declared.Registered.{Registered}
-use Rattle.family_spec.specs.declared.Registered.TheVariants as registered
-use Rattle.family_spec.specs.declared.Turned.{Turned}
-use Rattle.family_spec.specs.declared.Turned.TheVariants.{Idle, Served}
-use Rattle.family_spec.specs.declared.FamilyOpened.{FamilyOpened}
-use Rattle.family_spec.specs.declared.FamilyStepped.{FamilyStepped}
-use Rattle.family_spec.specs.declared.FamilyRegistered.{FamilyRegistered}
-use Rattle.family_spec.specs.declared.FamilyTurned.{FamilyTurned}
+use Rattle.family_spec.specs.declared.Served.{Served}
+use Rattle.family_spec.specs.declared.FamilyAnswer.{FamilyAnswer}
 use Rattle.family_spec.specs.Family.{open_with, member_at, put, schedule, terms}
 use Rattle.family_spec.specs.Waiting.{waits, with_bit, without_bit, members_waiting}
 use Rattle.family_spec.specs.Member.{check_opened, StepInputs, call_of}
-use Rattle.family_spec.specs.Operations.{open_member_verdict, OpenMemberContract, step_member_verdict, StepMemberContract, register_verdict, register_tells, RegisterContract, next_member, waiting_count, TurnContract}
+use Rattle.family_spec.specs.Operations.{open_member_verdict, OpenMemberContract, step_member_verdict, StepMemberContract, register_verdict, RegisterContract, next_member, waiting_count, TurnContract}
 use Rattle.family_spec.specs.History.{FamilyEvent, FamilyStanding, FamilyMoves, turns_of, turns_in, served_of, served_in, lengths_after}
 use Rattle.family_spec.specs.Claims.{IsOpen, Waits, is_done, waits_after_call, waits_after, Distinct, NotYetServed, ServedWithin8, search_from, WaitingOpen, TurnIdle}
 use Rattle.family_spec.proofs.RuleLaws.{opened-decides}
-use Rattle.family_spec.proofs.AnswerLaws.{register-tells-injective}
 use Rattle.family_spec.proofs.FamilyLaws.{Eight}
 use Rattle.family_spec.proofs.TurnLaws.{idle-apart, nobody-apart, member-same, turn-serves, turn-idles}
 use Rattle.family_spec.proofs.ByteLaws.{set-bit, clear-bit, set-byte, clear-byte, count_bits}
@@ -45,7 +38,7 @@ use Rattle.family_spec.proofs.WaitingLaws.{ahead, ahead-reaches, nearer, behind,
 use Rattle.family_spec.proofs.MemberLaws.{register-members, moves-steady, moves-own}
 use Rattle.family_spec.proofs.AccountLaws.{lives-end}
 
-refused-apart : {n p : ℕ} {u : Unit} → ◌≡◌ {A = Answered Unit} (refused n p) (accepted u) → ⊥
+refused-apart : {n p : ℕ} {u : Unit} → ◌≡◌ {A = Answered Unit} (refused n p) (Ok u) → ⊥
 refused-apart e = let z : ◌≡◌ {A = ℕ} 0 1 = cc in omega arith
 
 head-same : {a b : ℕ} {xs ys : List ℕ} → a ∷ xs ≡ b ∷ ys → a ≡ b
@@ -54,11 +47,11 @@ head-same e = cc
 -- ---- of any family
 
 -- a turn says so exactly if nobody waits
-pub turn-idle : (f : Family) (x : StepInputs) (r : FamilyTurned) (kept : List ℕ) (scratch : List ℤ) (book : List ℕ) → TurnContract f x r kept scratch book → TurnIdle f x r kept scratch book
+pub turn-idle : (f : Family) (x : StepInputs) (r : FamilyAnswer (Option Served)) (kept : List ℕ) (scratch : List ℤ) (book : List ℕ) → TurnContract f x r kept scratch book → TurnIdle f x r kept scratch book
 turn-idle f x r kept scratch book = by_answer r.answer
   where
-    by_answer : (a : Turned) → TurnContract f x (record { family = r.family; answer = a }) kept scratch book → TurnIdle f x (record { family = r.family; answer = a }) kept scratch book
-    by_answer Idle p =
+    by_answer : (a : Option Served) → TurnContract f x (record { family = r.family; answer = a }) kept scratch book → TurnIdle f x (record { family = r.family; answer = a }) kept scratch book
+    by_answer None p =
         let z = turn-idles p in
         record {
           nobody_waits = (λ e. (nobody_next f).0 z.due, λ n. refl);
@@ -68,7 +61,7 @@ turn-idle f x r kept scratch book = by_answer r.answer
           same_scratch = λ e. z.leaves;
           same_book = λ e. z.files;
         }
-    by_answer (Served i a) p =
+    by_answer (Some r) p =
         let z = turn-serves p in
         record {
           nobody_waits = (λ e. absurd (idle-apart e refl), λ n. absurd (nobody-apart ((nobody_next f).1 n) z.due));
@@ -80,29 +73,29 @@ turn-idle f x r kept scratch book = by_answer r.answer
         }
 
 -- who is registered and waits changes nothing by registering
-pub register-again : {f : Family} {i : ℕ} {r : FamilyRegistered} → waits f.waiting i ≡ true → RegisterContract f i r → r.family ≡ f
+pub register-again : {f : Family} {i : ℕ} {r : FamilyAnswer Checked} → waits f.waiting i ≡ true → RegisterContract f i r → r.family ≡ f
 register-again {f} {i} w p = p.gives ∙ by-verdict (register_verdict f i)
   where
     by-verdict : (v : Checked) → after v (schedule f (with_bit f.waiting i) f.from) f ≡ f
-    by-verdict Pass = ap (λ b. schedule f b f.from) (set-has f.waiting i w)
-    by-verdict (Fail n p) = refl
+    by-verdict (Ok tt) = ap (λ b. schedule f b f.from) (set-has f.waiting i w)
+    by-verdict (Err r) = refl
 
 -- 'Registering twice counts once' (02)
 pub register-twice :
-    {f : Family} {i : ℕ} {r r' : FamilyRegistered} → f.waiting < 256 → RegisterContract f i r → RegisterContract r.family i r'
+    {f : Family} {i : ℕ} {r r' : FamilyAnswer Checked} → f.waiting < 256 → RegisterContract f i r → RegisterContract r.family i r'
     → (r'.family ≡ r.family) × (r'.answer ≡ r.answer)
 register-twice {f} {i} {r} {r'} b p p' = (
   by-verdict (register_verdict f i) refl,
-  register-tells-injective r'.answer r.answer (p'.answers ∙ ap (λ m. answered (check_opened i m) tt) (register-members p i) ∙ sym p.answers),
+  p'.answers ∙ ap (λ m. answered (check_opened i m) tt) (register-members p i) ∙ sym p.answers,
 )
   where
     by-verdict : (v : Checked) → register_verdict f i ≡ v → r'.family ≡ r.family
-    by-verdict Pass e =
+    by-verdict (Ok tt) e =
         let l : i < 8 = omega (arith, ((opened-decides i (member_at f i)).passes.0 e).0) in
         register-again
         (ap (λ g. waits g.waiting i) (p.gives ∙ ap (λ v. after v (schedule f (with_bit f.waiting i) f.from) f) e) ∙ set-bit f.waiting i b l i l ∙ ap (λ t. t || waits f.waiting i) (eq-eqb i i refl))
         p'
-    by-verdict (Fail n q) e =
+    by-verdict (Err s) e =
         p'.gives ∙ ap (λ v. after v (schedule r.family (with_bit r.family.waiting i) r.family.from) r.family) (ap (check_opened i) (register-members p i) ∙ e)
 
 -- the number waiting is that of the members that wait
@@ -126,16 +119,16 @@ same-scheduled {f} {g} t q = record { byte = omega (arith, t.waiting, q.byte); s
 -- ---- one call
 
 put-turn : (f : Family) (i : ℕ) (m : Member) (v : Checked) → SameTurn f (after v (put f i m) f)
-put-turn f i m Pass = record { waiting = refl; from = refl }
-put-turn f i m (Fail n p) = record { waiting = refl; from = refl }
+put-turn f i m (Ok tt) = record { waiting = refl; from = refl }
+put-turn f i m (Err r) = record { waiting = refl; from = refl }
 
 -- an opening serves nobody
-pub open_turn : {f : Family} {i : ℕ} {kept : List ℕ} {k : ℕ} {r : FamilyOpened} → OpenMemberContract f i kept k r → SameTurn f r.family
+pub open_turn : {f : Family} {i : ℕ} {kept : List ℕ} {k : ℕ} {r : FamilyAnswer (Answered Balance)} → OpenMemberContract f i kept k r → SameTurn f r.family
 open_turn {f} {i} {kept} {k} p = subst (SameTurn f) (sym p.gives) (put-turn f i (open_with (sum kept)) (open_member_verdict f i kept k))
 
 -- 'Outside a turn a step serves nobody' (02)
 pub step-turn :
-    {f : Family} {i : ℕ} {x : StepInputs} {r : FamilyStepped} {kept : List ℕ} {scratch : List ℤ} {book : List ℕ} → StepMemberContract f i x r kept scratch book → SameTurn f r.family
+    {f : Family} {i : ℕ} {x : StepInputs} {r : FamilyAnswer (Answered Stepped)} {kept : List ℕ} {scratch : List ℤ} {book : List ℕ} → StepMemberContract f i x r kept scratch book → SameTurn f r.family
 step-turn {f} {i} {x} p = subst (SameTurn f) (sym p.gives) (put-turn f i (open_with (new_total (call_of (terms f) (member_at f i) x))) (step_member_verdict f i x))
 
 -- a registration sets its member's bit or does nothing
@@ -145,20 +138,20 @@ pub record Adds (f g : Family) : Type 0 where
   pub from : g.from ≡ f.from
 
 register-by : (f : Family) (i : ℕ) (v : Checked) → register_verdict f i ≡ v → Scheduled f → Adds f (after v (schedule f (with_bit f.waiting i) f.from) f)
-register-by f i Pass e q =
+register-by f i (Ok tt) e q =
     let l : i < 8 = omega (arith, ((opened-decides i (member_at f i)).passes.0 e).0) in
     record {
       scheduled = record { byte = set-byte f.waiting i q.byte l; start = q.start };
       waiting = λ j k w. set-bit f.waiting i q.byte l j k ∙ ap (λ b. eqb j i || b) w ∙ or-true (eqb j i);
       from = refl;
     }
-register-by f i (Fail n p) e q = record { scheduled = q; waiting = λ j k w. w; from = refl }
+register-by f i (Err r) e q = record { scheduled = q; waiting = λ j k w. w; from = refl }
 
-pub register-adds : {f : Family} {i : ℕ} {r : FamilyRegistered} → Scheduled f → RegisterContract f i r → Adds f r.family
+pub register-adds : {f : Family} {i : ℕ} {r : FamilyAnswer Checked} → Scheduled f → RegisterContract f i r → Adds f r.family
 register-adds {f} {i} q p = subst (Adds f) (sym p.gives) (register-by f i (register_verdict f i) refl q)
 
 -- a turn that served m
-module _ {f : Family} {x : StepInputs} {g : Family} {m : ℕ} {answer : Stepped} {kept : List ℕ} {scratch : List ℤ} {book : List ℕ} (p : TurnContract f x (record { family = g; answer = Served m answer }) kept scratch book) where
+module _ {f : Family} {x : StepInputs} {g : Family} {m : ℕ} {answer : Answered Stepped} {kept : List ℕ} {scratch : List ℤ} {book : List ℕ} (p : TurnContract f x (record { family = g; answer = Some (record { member = m; stepped = answer }) }) kept scratch book) where
   pub served-byte : g.waiting ≡ without_bit f.waiting m
   served-byte = let t = turn-serves p in ap (λ h. h.waiting) t.ends ∙ ap (λ b. without_bit b m) (step-turn t.contract).waiting
 
@@ -211,8 +204,8 @@ waits-on i {s} l q h (FamilyMoves.serves {x = x} {g} {i = m} {answer} {kept} {sc
     at : m ≡ (y + r.places) % 8
     at = unfold next_member in (member-same (turn-serves p).due r.found) ∙ r.at
 
-    by-member : Dec (m ≡ i) → Turn i s (FamilyEvent.turns s.family x (record { family = g; answer = Served m answer }) kept scratch book)
-        (record { family = g; kept = all; book = books; length = lengths_after s.length m (step_tells answer) })
+    by-member : Dec (m ≡ i) → Turn i s (FamilyEvent.turns s.family x (record { family = g; answer = Some (record { member = m; stepped = answer }) }) kept scratch book)
+        (record { family = g; kept = all; book = books; length = lengths_after s.length m answer })
     by-member (yes e) = Turn.own (ap (λ n. n ∷ []) e)
     by-member (no n) =
         Turn.other m refl refl n
@@ -324,12 +317,11 @@ within-eight i l q h r t = ⊎_elim (λ z. absurd (omega (arith, t, z.few))) (λ
 
 -- ---- who waits
 
-register-told : (v : Checked) (a : Registered) → register_tells a ≡ answered v tt → (i j byte : ℕ) (l : i < 8) → byte < 256 → (v ≡ Pass → j < 8) → waits (after v (with_bit byte j) byte) i ≡ ((is_done a && eqb i j) || waits byte i)
-unfolding register_tells
-register-told Pass registered.Done e i j byte l k b = set-bit byte j k (b refl) i l
-register-told Pass (registered.Refused n p) e i j byte l k b = absurd (refused-apart e)
-register-told (Fail n p) registered.Done e i j byte l k b = absurd (refused-apart (sym e))
-register-told (Fail n p) (registered.Refused m q) e i j byte l k b = refl
+register-told : (v : Checked) (a : Checked) → a ≡ answered v tt → (i j byte : ℕ) (l : i < 8) → byte < 256 → (v ≡ Ok tt → j < 8) → waits (after v (with_bit byte j) byte) i ≡ ((is_done a && eqb i j) || waits byte i)
+register-told (Ok u) (Ok w) e i j byte l k b = set-bit byte j k (b refl) i l
+register-told (Ok tt) (Err r) e i j byte l k b = absurd (refused-apart e)
+register-told (Err r) (Ok tt) e i j byte l k b = absurd (refused-apart (sym e))
+register-told (Err r) (Err s) e i j byte l k b = refl
 
 moves-waits : (i : ℕ) {s t : FamilyStanding} {e : FamilyEvent} → i < 8 → Scheduled s.family → FamilyMoves s e t → waits t.family.waiting i ≡ waits_after_call i (waits s.family.waiting i) e
 moves-waits i l q (FamilyMoves.opens p) = ap (λ b. waits b i) (open_turn p).waiting
@@ -340,8 +332,8 @@ moves-waits i {s} l q (FamilyMoves.registers {i = j} {r} p) =
     ∙ register-told v r.answer p.answers i j s.family.waiting l q.byte (λ e. omega (arith, ((opened-decides j (member_at s.family j)).passes.0 e).0))
   where
     by-verdict : (v : Checked) → waits (after v (schedule s.family (with_bit s.family.waiting j) s.family.from) s.family).waiting i ≡ waits (after v (with_bit s.family.waiting j) s.family.waiting) i
-    by-verdict Pass = refl
-    by-verdict (Fail n p) = refl
+    by-verdict (Ok tt) = refl
+    by-verdict (Err r) = refl
 moves-waits i {s} l q (FamilyMoves.serves {i = m} p z u k) = ap (λ b. waits b i) (served-byte p) ∙ clear-bit s.family.waiting m q.byte (served-below p) i l
 moves-waits i l q (FamilyMoves.idles p) = ap (λ g. waits g.waiting i) (turn-idles p).gives
 moves-waits i l q (FamilyMoves.books p t o f) = refl
@@ -382,8 +374,8 @@ waited-or-open q (FamilyMoves.steps p z u k) i l h = inl (sym (ap (λ b. waits b
 waited-or-open {s} q (FamilyMoves.registers {i = j} p) i l h = by-verdict (register_verdict s.family j) refl (sym (ap (λ g. waits g.waiting i) p.gives) ∙ h)
   where
     by-verdict : (v : Checked) → register_verdict s.family j ≡ v → waits (after v (schedule s.family (with_bit s.family.waiting j) s.family.from) s.family).waiting i ≡ true → Waits s i ⊎ (IsOpen s i ≡ true)
-    by-verdict (Fail n x) e k = inl k
-    by-verdict Pass e k =
+    by-verdict (Err r) e k = inl k
+    by-verdict (Ok tt) e k =
         let o = (opened-decides j (member_at s.family j)).passes.0 e in
         by-test (tested (eqb i j)) o.1 (sym (set-bit s.family.waiting j q.byte (omega (arith, o.0)) i l) ∙ k)
       where

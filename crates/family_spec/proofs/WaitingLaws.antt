@@ -1,20 +1,19 @@
--- Who is next: the first that waits, found from where the search begins; and the laws that the code's search and bits go by. Assumes nothing.
+-- Who is next: the first that waits, found from where the search begins; and the laws that the code's search goes by. Assumes nothing.
+use Rattle.std.specs.Prelude.{Some, None}
 use mathlib.Core.Path.{◌≡◌, refl, sym, ◌∙◌, ap}
 use mathlib.Core.Logic.{◌≢◌, ◌↔◌}
 use mathlib.Core.Bool.{true, false, cond}
-use Prim.Native.Nat.{ℕ, zero, suc, ◌+◌, ◌-◌, ◌%◌, ◌^◌, ◌≤◌, ◌<◌}
+use Prim.Native.Nat.{ℕ, zero, suc, ◌+◌, ◌-◌, ◌%◌, ◌≤◌, ◌<◌}
 use native.Mathlib.Omega.{arith}
 use native.Mathlib.Decide.{ℕ_discrete}
 use lib.Dec.{ltb}
 use borrow.Author.Tests.{ltb-true, ltb-false}
 use Rattle.numbers.proofs.TestLaws.{Tested, holds, fails, tested, not_so, clash}
 use Rattle.family_spec.specs.declared.Family.{Family}
-use Rattle.family_spec.specs.declared.NextMember.TheVariants as next
-use Rattle.family_spec.specs.Waiting.{waits, with_bit, without_bit, first_waiting}
+use Rattle.family_spec.specs.Waiting.{waits, with_bit, first_waiting}
 use Rattle.family_spec.specs.Operations.{next_member}
 use Rattle.family_spec.specs.Claims.{NobodyWaits, FirstAmong}
 use Rattle.family_spec.proofs.TurnLaws.{nobody-apart, member-same}
-use Rattle.family_spec.proofs.ByteLaws.{set-byte, set-power}
 
 -- ---- who is next
 
@@ -45,7 +44,7 @@ behind i m a b n = omega arith
 pub record Found (byte x k D : ℕ) : Type 0 where
   pub member : ℕ
   pub places : ℕ
-  pub found : first_waiting byte x k ≡ next.Member member
+  pub found : first_waiting byte x k ≡ Some member
   pub at : member ≡ (x + places) % 8
   pub near : places ≤ D
 
@@ -58,7 +57,7 @@ found-later byte x k D n e r =
     record {
       member = r.member;
       places = suc r.places;
-      found = ap (λ b. cond b (next.Member (x % 8)) (first_waiting byte (suc x) k)) e ∙ r.found;
+      found = ap (λ b. cond b (Some (x % 8)) (first_waiting byte (suc x) k)) e ∙ r.found;
       at = omega arith;
       near = omega arith;
     }
@@ -79,7 +78,7 @@ finds byte x (suc k) D l w = by-test (tested (waits byte (x % 8))) (λ a b. find
         record {
           member = x % 8;
           places = 0;
-          found = ap (λ b. cond b (next.Member (x % 8)) (first_waiting byte (suc x) k)) e;
+          found = ap (λ b. cond b (Some (x % 8)) (first_waiting byte (suc x) k)) e;
           at = omega arith;
           near = omega arith;
         }
@@ -89,38 +88,38 @@ finds byte x (suc k) D l w = by-test (tested (waits byte (x % 8))) (λ a b. find
         by_place (yes z) = absurd (at_once (omega arith) e)
         by_place (no n) = found-later byte x k D n e (ih (omega arith) (on (omega arith)))
 
-none_found : (byte x k : ℕ) → ((i : ℕ) → i < 8 → waits byte i ≡ false) → first_waiting byte x k ≡ next.Nobody
+none_found : (byte x k : ℕ) → ((i : ℕ) → i < 8 → waits byte i ≡ false) → first_waiting byte x k ≡ None
 unfolding first_waiting
 none_found byte x zero h = refl
-none_found byte x (suc k) h = ap (λ b. cond b (next.Member (x % 8)) (first_waiting byte (suc x) k)) (h (x % 8) (omega arith)) ∙ none_found byte (suc x) k h
+none_found byte x (suc k) h = ap (λ b. cond b (Some (x % 8)) (first_waiting byte (suc x) k)) (h (x % 8) (omega arith)) ∙ none_found byte (suc x) k h
 
 -- the number of the member that is next is below 8
-next-below : (byte x k : ℕ) {m : ℕ} → first_waiting byte x k ≡ next.Member m → m < 8
+next-below : (byte x k : ℕ) {m : ℕ} → first_waiting byte x k ≡ Some m → m < 8
 unfolding first_waiting
 next-below byte x zero e = absurd (nobody-apart refl e)
 next-below byte x (suc k) {m} e = by-test (tested (waits byte (x % 8))) (next-below byte (suc x) k)
   where
-    by-test : Tested (waits byte (x % 8)) → (first_waiting byte (suc x) k ≡ next.Member m → m < 8) → m < 8
-    by-test (holds b) ih = let s : m ≡ x % 8 = member-same (sym (ap (λ t. cond t (next.Member (x % 8)) (first_waiting byte (suc x) k)) b) ∙ e) refl in omega arith
-    by-test (fails b) ih = ih (sym (ap (λ t. cond t (next.Member (x % 8)) (first_waiting byte (suc x) k)) b) ∙ e)
+    by-test : Tested (waits byte (x % 8)) → (first_waiting byte (suc x) k ≡ Some m → m < 8) → m < 8
+    by-test (holds b) ih = let s : m ≡ x % 8 = member-same (sym (ap (λ t. cond t (Some (x % 8)) (first_waiting byte (suc x) k)) b) ∙ e) refl in omega arith
+    by-test (fails b) ih = ih (sym (ap (λ t. cond t (Some (x % 8)) (first_waiting byte (suc x) k)) b) ∙ e)
 
-pub next-number : (f : Family) {m : ℕ} → next_member f ≡ next.Member m → m < 8
+pub next-number : (f : Family) {m : ℕ} → next_member f ≡ Some m → m < 8
 unfolding next_member
 next-number f e = next-below _ _ 8 e
 
 -- ---- the first that waits
 
-first-is : (byte x k m : ℕ) → first_waiting byte x k ≡ next.Member m → FirstAmong byte x k m
+first-is : (byte x k m : ℕ) → first_waiting byte x k ≡ Some m → FirstAmong byte x k m
 unfolding first_waiting
 first-is byte x zero m e = absurd (nobody-apart refl e)
 first-is byte x (suc k) m e = by-test (tested (waits byte (x % 8))) (λ h. first-is byte (suc x) k m h)
   where
-    by-test : Tested (waits byte (x % 8)) → (first_waiting byte (suc x) k ≡ next.Member m → FirstAmong byte (suc x) k m) → FirstAmong byte x (suc k) m
+    by-test : Tested (waits byte (x % 8)) → (first_waiting byte (suc x) k ≡ Some m → FirstAmong byte (suc x) k m) → FirstAmong byte x (suc k) m
     by-test (holds b) ih =
-        let s : m ≡ x % 8 = member-same (sym (ap (λ t. cond t (next.Member (x % 8)) (first_waiting byte (suc x) k)) b) ∙ e) refl in
+        let s : m ≡ x % 8 = member-same (sym (ap (λ t. cond t (Some (x % 8)) (first_waiting byte (suc x) k)) b) ∙ e) refl in
         record { places = 0; near = omega arith; reached = omega arith; waiting = ap (waits byte) s ∙ b; before = λ d l. absurd (omega arith) }
     by-test (fails b) ih =
-        let r = ih (sym (ap (λ t. cond t (next.Member (x % 8)) (first_waiting byte (suc x) k)) b) ∙ e) in
+        let r = ih (sym (ap (λ t. cond t (Some (x % 8)) (first_waiting byte (suc x) k)) b) ∙ e) in
         let u = r.reached in
         let v = r.near in
         record { places = suc r.places; near = omega arith; reached = omega arith; waiting = r.waiting; before = λ d l. earlier d r.places l r.before }
@@ -144,24 +143,24 @@ first_one byte x k a b p q = by_place p.places q.places p.reached q.reached p.wa
         by-test (fails t) (fails w) = let e : c ≡ d = omega (arith, ltb-false c d t, ltb-false d c w) in r ∙ ap (λ y. (x + y) % 8) e ∙ sym s
 
 -- a member is next exactly if it is the first that waits
-pub next-is : (f : Family) (m : ℕ) → (next_member f ≡ next.Member m) ↔ FirstAmong f.waiting f.from 8 m
+pub next-is : (f : Family) (m : ℕ) → (next_member f ≡ Some m) ↔ FirstAmong f.waiting f.from 8 m
 unfolding next_member
 next-is f m = (first-is f.waiting f.from 8 m, from)
   where
-    from : FirstAmong f.waiting f.from 8 m → first_waiting f.waiting f.from 8 ≡ next.Member m
+    from : FirstAmong f.waiting f.from 8 m → first_waiting f.waiting f.from 8 ≡ Some m
     from p =
         let r = finds f.waiting f.from 8 p.places p.near (ap (waits f.waiting) (sym p.reached) ∙ p.waiting) in
-        r.found ∙ ap (λ k. next.Member k) (first_one f.waiting f.from 8 r.member m (first-is f.waiting f.from 8 r.member r.found) p)
+        r.found ∙ ap (λ k. Some k) (first_one f.waiting f.from 8 r.member m (first-is f.waiting f.from 8 r.member r.found) p)
 
 -- nobody is next exactly if nobody waits
-pub nobody_next : (f : Family) → (next_member f ≡ next.Nobody) ↔ NobodyWaits f
+pub nobody_next : (f : Family) → (next_member f ≡ None) ↔ NobodyWaits f
 nobody_next f = (to, from)
   where
-    to : next_member f ≡ next.Nobody → NobodyWaits f
+    to : next_member f ≡ None → NobodyWaits f
     to e i l = not_so (waits f.waiting i) (λ w. unfold next_member in (
         let r = finds f.waiting f.from 8 (ahead i (f.from % 8)) (omega arith) (ap (waits f.waiting) (reaches i f.from l) ∙ w) in nobody-apart e r.found))
 
-    from : NobodyWaits f → next_member f ≡ next.Nobody
+    from : NobodyWaits f → next_member f ≡ None
     from h = unfold next_member in (none_found f.waiting f.from 8 h)
 
 -- ---- as the code goes
@@ -171,7 +170,7 @@ module _ (byte from k : ℕ) where
   more : k < 8 → 8 - k ≡ suc (8 - (k + 1))
   more l = omega arith
 
-  pub next_here : k < 8 → waits byte ((from + k) % 8) ≡ true → first_waiting byte (from + k) (8 - k) ≡ next.Member ((from + k) % 8)
+  pub next_here : k < 8 → waits byte ((from + k) % 8) ≡ true → first_waiting byte (from + k) (8 - k) ≡ Some ((from + k) % 8)
   unfolding first_waiting
   next_here l w = rw (more l, w) refl
 
@@ -179,30 +178,11 @@ module _ (byte from k : ℕ) where
   unfolding first_waiting
   next-on l w = let e : suc (from + k) ≡ from + (k + 1) = omega arith in rw (more l, w, e) refl
 
-  pub next-none : k ≡ 8 → first_waiting byte (from + k) (8 - k) ≡ next.Nobody
+  pub next-none : k ≡ 8 → first_waiting byte (from + k) (8 - k) ≡ None
   unfolding first_waiting
   next-none e = rw e refl
 
--- a bit that is clear is set by adding its power, and the sum is a byte; one that is set is cleared by taking it away
-module _ (byte i : ℕ) where
-  pub set-has : waits byte i ≡ true → with_bit byte i ≡ byte
-  unfolding with_bit
-  set-has w = rw w refl
-
-  pub set-adds : waits byte i ≡ false → with_bit byte i ≡ byte + 2 ^ i
-  unfolding with_bit
-  set-adds w = rw w refl
-
-  pub set-fits : byte < 256 → i < 8 → waits byte i ≡ false → byte + 2 ^ i < 256
-  set-fits b l w = omega (arith, set-byte byte i b l, set-adds w)
-
-  pub clear-has : waits byte i ≡ false → without_bit byte i ≡ byte
-  unfolding without_bit
-  clear-has w = rw w refl
-
-  pub clear-takes : waits byte i ≡ true → without_bit byte i ≡ byte - 2 ^ i
-  unfolding without_bit
-  clear-takes w = rw w refl
-
-  pub clear-fits : byte < 256 → i < 8 → waits byte i ≡ true → 2 ^ i ≤ byte
-  clear-fits b l w = set-power byte i b l w
+-- a bit that is set stays so
+pub set-has : (byte i : ℕ) → waits byte i ≡ true → with_bit byte i ≡ byte
+unfolding with_bit
+set-has byte i w = rw w refl

@@ -1,18 +1,14 @@
 -- What is claimed of every history of a family. Assumes nothing.
-use Rattle.std.specs.Prelude.{◌≡◌, ◌≢◌, ◌↔◌, Bool, true, false, not, ◌&&◌, ◌||◌, List, [], ◌∷◌, ◌++◌, ℕ, suc, ◌+◌, ◌%◌, ◌≤◌, ◌<◌, eqb, ℤ, length}
+use Rattle.std.specs.Prelude.{Ok, Err, Some, None, Option, ◌≡◌, ◌≢◌, ◌↔◌, Bool, true, false, not, ◌&&◌, ◌||◌, List, [], ◌∷◌, ◌++◌, ℕ, suc, ◌+◌, ◌%◌, ◌≤◌, ◌<◌, eqb, ℤ, length}
+use Rattle.numbers.specs.Checks.{Checked}
 use Rattle.numbers.specs.Lists.{All}
 use Rattle.book_spec.specs.Book.{book}
 use Rattle.kept_spec.specs.declared.Balance.{Balance}
 use Rattle.kept_spec.specs.Account.{Standing, Account}
 use Rattle.kept_spec.specs.BookRun.{StartEvent, Act, Ledger, ledger, BookAccount, book_after}
+use Rattle.family_spec.specs.declared.Served.{Served}
+use Rattle.family_spec.specs.declared.FamilyAnswer.{FamilyAnswer}
 use Rattle.family_spec.specs.declared.Family.{Family}
-use Rattle.family_spec.specs.declared.Started.TheVariants.{Done}
-use Rattle.family_spec.specs.declared.Registered.{Registered}
-use Rattle.family_spec.specs.declared.Registered.TheVariants as registered
-use Rattle.family_spec.specs.declared.NextMember.TheVariants as next
-use Rattle.family_spec.specs.declared.Turned.{Turned}
-use Rattle.family_spec.specs.declared.Turned.TheVariants.{Idle, Served}
-use Rattle.family_spec.specs.declared.FamilyTurned.{FamilyTurned}
 use Rattle.family_spec.specs.Family.{member_at, total_of, terms}
 use Rattle.family_spec.specs.Waiting.{waits}
 use Rattle.family_spec.specs.Member.{StepInputs}
@@ -21,7 +17,7 @@ use Rattle.family_spec.specs.History.{FamilyEvent, FamilyStanding, openings_of, 
 
 -- an accepted start, with which every history begins: no masses are kept, and no book
 pub record Begins (cap scale cells : ℕ) (s : FamilyStanding) : Type 0 where
-  pub contract : StartContract cap scale cells (record { family = s.family; answer = Done })
+  pub contract : StartContract cap scale cells (record { family = s.family; answer = Ok tt })
   pub empty : (i : ℕ) → s.kept i ≡ []
   pub no_book : (i : ℕ) → s.book i ≡ []
   pub no_length : (i : ℕ) → s.length i ≡ 0
@@ -58,13 +54,13 @@ NobodyWaits f = (i : ℕ) → i < 8 → waits f.waiting i ≡ false
 
 -- whether member i waits after a turn, after a call and after these calls, by whether it did before: from an accepted registration on, until a
 -- turn serves it
-abbrev pub is_done : Registered → Bool
-is_done registered.Done = true
-is_done (registered.Refused number place) = false
+abbrev pub is_done : Checked → Bool
+is_done (Ok tt) = true
+is_done (Err r) = false
 
-abbrev pub waits_after_turn : ℕ → Bool → Turned → Bool
-waits_after_turn i b Idle = b
-waits_after_turn i b (Served j answer) = not (eqb i j) && b
+abbrev pub waits_after_turn : ℕ → Bool → Option Served → Bool
+waits_after_turn i b None = b
+waits_after_turn i b (Some r) = not (eqb i r.member) && b
 
 abbrev pub waits_after_call : ℕ → Bool → FamilyEvent → Bool
 waits_after_call i b (FamilyEvent.opens f j kept k r) = b
@@ -120,10 +116,10 @@ abbrev pub WaitingOpen : FamilyStanding → Type 0
 WaitingOpen s = (i : ℕ) → i < 8 → Waits s i → IsOpen s i ≡ true
 
 -- a turn is idle exactly if nobody waits, and exactly if the reading of the next says nobody; it then changes nothing
-pub record TurnIdle (f : Family) (x : StepInputs) (r : FamilyTurned) (kept : List ℕ) (scratch : List ℤ) (book : List ℕ) : Type 0 where
-  pub nobody_waits : (r.answer ≡ Idle) ↔ NobodyWaits f
-  pub nobody_next : (r.answer ≡ Idle) ↔ (next_member f ≡ next.Nobody)
-  pub same_family : r.answer ≡ Idle → r.family ≡ f
-  pub same_kept : r.answer ≡ Idle → kept ≡ x.kept
-  pub same_scratch : r.answer ≡ Idle → scratch ≡ x.scratch
-  pub same_book : r.answer ≡ Idle → book ≡ x.book
+pub record TurnIdle (f : Family) (x : StepInputs) (r : FamilyAnswer (Option Served)) (kept : List ℕ) (scratch : List ℤ) (book : List ℕ) : Type 0 where
+  pub nobody_waits : (r.answer ≡ None) ↔ NobodyWaits f
+  pub nobody_next : (r.answer ≡ None) ↔ (next_member f ≡ None)
+  pub same_family : r.answer ≡ None → r.family ≡ f
+  pub same_kept : r.answer ≡ None → kept ≡ x.kept
+  pub same_scratch : r.answer ≡ None → scratch ≡ x.scratch
+  pub same_book : r.answer ≡ None → book ≡ x.book

@@ -2,17 +2,14 @@
 -- are accepted and one that is refused with 20, an opening of an open member, a step of one that is not open, an opening that would pass the cap, a
 -- step lent a part of its masses and one lent other masses and another book; then both register, one of them twice, and turns serve them in turn,
 -- one of them refused; an idle turn; and one that goes round. Assumes nothing.
-use Rattle.std.specs.Prelude.{List, [], ◌∷◌, ℕ, ℤ, pos, negsuc, replicate}
+use Rattle.std.specs.Prelude.{Ok, Some, None, List, [], ◌∷◌, ℕ, ℤ, pos, negsuc, replicate}
+use Rattle.numbers.specs.Checks.{Answered, refused}
 use Rattle.book_spec.specs.Book.{Entry, entry}
 use Rattle.book_spec.specs.LentBook.{grown_buffer}
-use Rattle.kept_spec.specs.declared.Balance.{Balance}
-use Rattle.kept_spec.specs.declared.Opened.TheVariants as opened
 use Rattle.kept_spec.specs.declared.Stepped.{Stepped}
-use Rattle.kept_spec.specs.declared.Stepped.TheVariants as stepped
+use Rattle.kept_spec.specs.declared.Balance.{Balance}
 use Rattle.kept_spec.specs.Example.{two, lent_book, book_start}
 use Rattle.family_spec.specs.declared.Family.{Family}
-use Rattle.family_spec.specs.declared.Registered.TheVariants as registered
-use Rattle.family_spec.specs.declared.Turned.TheVariants.{Idle, Served}
 use Rattle.family_spec.specs.Family.{open_with, put, schedule, begun}
 use Rattle.family_spec.specs.Member.{StepInputs, step_inputs}
 use Rattle.family_spec.specs.History.{FamilyEvent, FamilyStanding, place}
@@ -106,17 +103,17 @@ balance total = record { total = total; scale = 20 }
 
 -- openings at scale 20
 abbrev opening : Family → ℕ → List ℕ → ℕ → Family → FamilyEvent
-opening f i kept total g = FamilyEvent.opens f i kept 20 (record { family = g; answer = opened.Accepted (balance total) })
+opening f i kept total g = FamilyEvent.opens f i kept 20 (record { family = g; answer = Ok (balance total) })
 
 abbrev opening_refused : Family → ℕ → List ℕ → ℕ → FamilyEvent
-opening_refused f i kept number = FamilyEvent.opens f i kept 20 (record { family = f; answer = opened.Refused number 0 })
+opening_refused f i kept number = FamilyEvent.opens f i kept 20 (record { family = f; answer = refused number 0 })
 
 -- steps by the field of `two`, at scale 20, lent a book of one block
 abbrev pub inputs : List ℕ → ℤ → List ℕ → StepInputs
 inputs kept source book = step_inputs kept source 20 two (replicate 12 (pos 1)) book 512
 
-abbrev pub told : ℕ → Stepped
-told total = stepped.Accepted (record { outcome = 0; total = total; change = 2; shared = 2 }) (balance total) 512
+abbrev pub told : ℕ → Answered Stepped
+told total = Ok (record { repair = record { outcome = 0; total = total; change = 2; shared = 2 }; balance = balance total; length = 512 })
 
 abbrev stepping : Family → ℕ → List ℕ → ℤ → List ℕ → ℕ → Family → List ℕ → List ℕ → FamilyEvent
 stepping f i kept source book total g masses left =
@@ -125,7 +122,7 @@ stepping f i kept source book total g masses left =
 
 abbrev stepping_refused : Family → ℕ → List ℕ → ℤ → List ℕ → ℕ → FamilyEvent
 stepping_refused f i kept source book number =
-    FamilyEvent.steps f i (inputs kept source book) (record { family = f; answer = stepped.Refused number 0 }) kept (replicate 12 (pos 1)) book
+    FamilyEvent.steps f i (inputs kept source book) (record { family = f; answer = refused number 0 }) kept (replicate 12 (pos 1)) book
 
 -- both are opened, and a book is started for each
 abbrev pub call1 : FamilyEvent
@@ -176,7 +173,7 @@ call12 = stepping full 0 (4 ∷ 6 ∷ []) (negsuc 3) book3 6 less (2 ∷ 4 ∷ [
 
 -- registrations: of member 1, of member 1 again, of member 0, and of one that is not open
 abbrev registering : Family → ℕ → Family → FamilyEvent
-registering f i g = FamilyEvent.registers f i (record { family = g; answer = registered.Done })
+registering f i g = FamilyEvent.registers f i (record { family = g; answer = Ok tt })
 
 abbrev pub call13 : FamilyEvent
 call13 = registering less 1 later
@@ -188,7 +185,7 @@ abbrev pub call15 : FamilyEvent
 call15 = registering later 0 busy
 
 abbrev pub call16 : FamilyEvent
-call16 = FamilyEvent.registers busy 2 (record { family = busy; answer = registered.Refused 19 0 })
+call16 = FamilyEvent.registers busy 2 (record { family = busy; answer = refused 19 0 })
 
 -- a step outside a turn serves nobody
 abbrev pub call17 : FamilyEvent
@@ -198,15 +195,15 @@ call17 = stepping busy 0 (2 ∷ 4 ∷ []) (pos 0) book12 6 busy (2 ∷ 4 ∷ [])
 abbrev pub call18 : FamilyEvent
 call18 =
     FamilyEvent.turns busy (inputs (2 ∷ 4 ∷ []) (pos 4) book17)
-    (record { family = turned; answer = Served 0 (told 10) }) (4 ∷ 6 ∷ []) (replicate 12 (pos 0)) book18
+    (record { family = turned; answer = Some (record { member = 0; stepped = told 10 }) }) (4 ∷ 6 ∷ []) (replicate 12 (pos 0)) book18
 
 abbrev pub call19 : FamilyEvent
 call19 =
     FamilyEvent.turns turned (inputs (4 ∷ 6 ∷ []) (pos 1) book5)
-    (record { family = idle; answer = Served 1 (stepped.Refused 20 0) }) (4 ∷ 6 ∷ []) (replicate 12 (pos 1)) book5
+    (record { family = idle; answer = Some (record { member = 1; stepped = refused 20 0 }) }) (4 ∷ 6 ∷ []) (replicate 12 (pos 1)) book5
 
 abbrev pub call20 : FamilyEvent
-call20 = FamilyEvent.turns idle (inputs [] (pos 0) []) (record { family = idle; answer = Idle }) [] (replicate 12 (pos 1)) []
+call20 = FamilyEvent.turns idle (inputs [] (pos 0) []) (record { family = idle; answer = None }) [] (replicate 12 (pos 1)) []
 
 -- member 0 registers, and the search from member 2 on goes round to it
 abbrev pub call21 : FamilyEvent
@@ -215,7 +212,7 @@ call21 = registering idle 0 again
 abbrev pub call22 : FamilyEvent
 call22 =
     FamilyEvent.turns again (inputs (4 ∷ 6 ∷ []) (negsuc 3) book18)
-    (record { family = over; answer = Served 0 (told 6) }) (2 ∷ 4 ∷ []) (replicate 12 (pos 0)) book22
+    (record { family = over; answer = Some (record { member = 0; stepped = told 6 }) }) (2 ∷ 4 ∷ []) (replicate 12 (pos 0)) book22
 
 abbrev pub events : List FamilyEvent
 events =

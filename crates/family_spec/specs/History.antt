@@ -1,47 +1,39 @@
 -- Histories of a family: any list of calls from an accepted start, each given the family as the last one left it. The kept masses of each
 -- member and its book stand in places of their own, which are lent to its calls alone. A turn is a call of the member that it serves. A member's
 -- book is started, and replaced, by one that opens with the member's total. Assumes nothing.
-use Rattle.std.specs.Prelude.{◌≡◌, Bool, true, false, cond, ◌&&◌, List, [], ◌∷◌, ◌++◌, ℕ, ◌*◌, eqb, ℤ}
-use Rattle.numbers.specs.declared.Checked.{Checked}
-use Rattle.numbers.specs.declared.Checked.TheVariants.{Pass, Fail}
+use Rattle.std.specs.Prelude.{Ok, Err, Some, None, Option, ◌≡◌, Bool, true, false, cond, ◌&&◌, List, [], ◌∷◌, ◌++◌, ℕ, ◌*◌, eqb, ℤ}
 use Rattle.numbers.specs.Lists.{sum, written}
-use Rattle.numbers.specs.Checks.{Answered, accepted, refused, answered, after}
+use Rattle.numbers.specs.Checks.{Checked, Answered, answered, after}
 use Rattle.qlt_spec.specs.Field.{nodes, scratch_per_node, field}
 use Rattle.qlt_spec.specs.Masses.{tree_masses}
 use Rattle.qlt_spec.specs.Operation.{cleared}
 use Rattle.blocks.specs.Words.{Bytes}
-use Rattle.book_spec.specs.StartBook.{book_start_tells, book_start_verdict}
+use Rattle.book_spec.specs.StartBook.{book_start_verdict}
 use Rattle.book_spec.specs.Book.{book_bytes, book}
 use Rattle.book_spec.specs.LentBook.{grown_buffer, grown_length}
-use Rattle.kept_spec.specs.declared.Balance.{Balance}
-use Rattle.kept_spec.specs.declared.Opened.{Opened}
 use Rattle.kept_spec.specs.declared.Stepped.{Stepped}
-use Rattle.kept_spec.specs.Open.{open_balance, open_tells}
-use Rattle.kept_spec.specs.Step.{new_total, step_verdict, StepResult, step_result, step_tells, Typed, step_entry}
+use Rattle.kept_spec.specs.declared.Balance.{Balance}
+use Rattle.kept_spec.specs.Open.{open_balance}
+use Rattle.kept_spec.specs.Step.{new_total, step_verdict, step_result, Typed, step_entry}
 use Rattle.kept_spec.specs.Run.{collect}
 use Rattle.kept_spec.specs.Account.{Event, Accepts}
 use Rattle.kept_spec.specs.BookRun.{StartEvent, StartPromised, length_after, Act, steps_in}
+use Rattle.family_spec.specs.declared.Served.{Served}
+use Rattle.family_spec.specs.declared.FamilyAnswer.{FamilyAnswer}
 use Rattle.family_spec.specs.declared.Member.{Member}
 use Rattle.family_spec.specs.declared.Family.{Family}
-use Rattle.family_spec.specs.declared.Registered.{Registered}
-use Rattle.family_spec.specs.declared.Turned.{Turned}
-use Rattle.family_spec.specs.declared.Turned.TheVariants.{Idle, Served}
-use Rattle.family_spec.specs.declared.FamilyOpened.{FamilyOpened}
-use Rattle.family_spec.specs.declared.FamilyStepped.{FamilyStepped}
-use Rattle.family_spec.specs.declared.FamilyRegistered.{FamilyRegistered}
-use Rattle.family_spec.specs.declared.FamilyTurned.{FamilyTurned}
 use Rattle.family_spec.specs.Family.{open_with, member_at, room, Terms, total_of}
 use Rattle.family_spec.specs.Member.{check_opened, opening_verdict, StepInputs, call_of, stepping_verdict}
-use Rattle.family_spec.specs.Operations.{OpenMemberContract, StepMemberContract, register_tells, RegisterContract, TurnContract}
+use Rattle.family_spec.specs.Operations.{OpenMemberContract, StepMemberContract, RegisterContract, TurnContract}
 
 -- ---- the family's history
 
 -- a call, of member i or a turn, with the family given, what it was lent, and what it gave and left; and a start of a book for member i
 pub data FamilyEvent : Type 0 where
-  opens : (f : Family) (i : ℕ) (kept : List ℕ) (k : ℕ) (r : FamilyOpened) → FamilyEvent
-  steps : (f : Family) (i : ℕ) (x : StepInputs) (r : FamilyStepped) (kept : List ℕ) (scratch : List ℤ) (book : List ℕ) → FamilyEvent
-  registers : (f : Family) (i : ℕ) (r : FamilyRegistered) → FamilyEvent
-  turns : (f : Family) (x : StepInputs) (r : FamilyTurned) (kept : List ℕ) (scratch : List ℤ) (book : List ℕ) → FamilyEvent
+  opens : (f : Family) (i : ℕ) (kept : List ℕ) (k : ℕ) (r : FamilyAnswer (Answered Balance)) → FamilyEvent
+  steps : (f : Family) (i : ℕ) (x : StepInputs) (r : FamilyAnswer (Answered Stepped)) (kept : List ℕ) (scratch : List ℤ) (book : List ℕ) → FamilyEvent
+  registers : (f : Family) (i : ℕ) (r : FamilyAnswer Checked) → FamilyEvent
+  turns : (f : Family) (x : StepInputs) (r : FamilyAnswer (Option Served)) (kept : List ℕ) (scratch : List ℤ) (book : List ℕ) → FamilyEvent
   books : (f : Family) (i : ℕ) (e : StartEvent) → FamilyEvent
 
 -- what stands between calls: the family, and of each member the kept masses, the buffer of its book and the book's length
@@ -56,48 +48,48 @@ place all i x j = cond (eqb j i) x (all j)
 
 -- the masses that an accepted opening was lent stand in its member's place from then on
 abbrev pub place_if : Answered Balance → (ℕ → List ℕ) → ℕ → List ℕ → ℕ → List ℕ
-place_if (accepted b) all i masses = place all i masses
-place_if (refused number place) all i masses = all
+place_if (Ok b) all i masses = place all i masses
+place_if (Err r) all i masses = all
 
 -- a step of member i is lent a part of a list of i's, its masses or its book's buffer, any part or the whole, and leaves in its place what it
 -- leaves; if it is accepted, it was lent the whole. Or it is lent another list and is refused. Nobody else writes the list.
-pub data Lends (all : ℕ → List ℕ) (i : ℕ) (given : List ℕ) (told : Answered StepResult) (left : List ℕ) : (ℕ → List ℕ) → Type 0 where
+pub data Lends (all : ℕ → List ℕ) (i : ℕ) (given : List ℕ) (told : Answered Stepped) (left : List ℕ) : (ℕ → List ℕ) → Type 0 where
   own : (before rest : List ℕ) → all i ≡ before ++ (given ++ rest) → (Accepts told → given ≡ all i) → Lends all i given told left (place all i (before ++ (left ++ rest)))
   elsewhere : (Accepts told → ⊥) → Lends all i given told left all
 
 -- a step of member i is told the length of i's book if it is accepted
-abbrev pub ToldLength : (ℕ → ℕ) → ℕ → ℕ → Answered StepResult → Type 0
+abbrev pub ToldLength : (ℕ → ℕ) → ℕ → ℕ → Answered Stepped → Type 0
 ToldLength lengths i l told = Accepts told → l ≡ lengths i
 
-abbrev pub lengths_after : (ℕ → ℕ) → ℕ → Answered StepResult → ℕ → ℕ
+abbrev pub lengths_after : (ℕ → ℕ) → ℕ → Answered Stepped → ℕ → ℕ
 lengths_after lengths i told = place lengths i (length_after told (lengths i))
 
 -- each call is given the family standing and keeps its contract; a turn that serves a member is lent masses and book as that member's steps are
 pub data FamilyMoves : FamilyStanding → FamilyEvent → FamilyStanding → Type 0 where
-  opens : {s : FamilyStanding} {i : ℕ} {kept : List ℕ} {k : ℕ} {r : FamilyOpened}
+  opens : {s : FamilyStanding} {i : ℕ} {kept : List ℕ} {k : ℕ} {r : FamilyAnswer (Answered Balance)}
       → OpenMemberContract s.family i kept k r
       → FamilyMoves s (FamilyEvent.opens s.family i kept k r)
-      (record { family = r.family; kept = place_if (open_tells r.answer) s.kept i kept; book = s.book; length = s.length })
-  steps : {s : FamilyStanding} {i : ℕ} {x : StepInputs} {r : FamilyStepped} {kept : List ℕ} {scratch : List ℤ} {book : List ℕ} {all books : ℕ → List ℕ}
-      → StepMemberContract s.family i x r kept scratch book → Lends s.kept i x.kept (step_tells r.answer) kept all
-      → Lends s.book i x.book (step_tells r.answer) book books → ToldLength s.length i x.length (step_tells r.answer)
+      (record { family = r.family; kept = place_if r.answer s.kept i kept; book = s.book; length = s.length })
+  steps : {s : FamilyStanding} {i : ℕ} {x : StepInputs} {r : FamilyAnswer (Answered Stepped)} {kept : List ℕ} {scratch : List ℤ} {book : List ℕ} {all books : ℕ → List ℕ}
+      → StepMemberContract s.family i x r kept scratch book → Lends s.kept i x.kept r.answer kept all
+      → Lends s.book i x.book r.answer book books → ToldLength s.length i x.length r.answer
       → FamilyMoves s (FamilyEvent.steps s.family i x r kept scratch book)
-      (record { family = r.family; kept = all; book = books; length = lengths_after s.length i (step_tells r.answer) })
-  registers : {s : FamilyStanding} {i : ℕ} {r : FamilyRegistered}
+      (record { family = r.family; kept = all; book = books; length = lengths_after s.length i r.answer })
+  registers : {s : FamilyStanding} {i : ℕ} {r : FamilyAnswer Checked}
       → RegisterContract s.family i r
       → FamilyMoves s (FamilyEvent.registers s.family i r) (record { family = r.family; kept = s.kept; book = s.book; length = s.length })
-  serves : {s : FamilyStanding} {x : StepInputs} {g : Family} {i : ℕ} {answer : Stepped} {kept : List ℕ} {scratch : List ℤ} {book : List ℕ} {all books : ℕ → List ℕ}
-      → TurnContract s.family x (record { family = g; answer = Served i answer }) kept scratch book
-      → Lends s.kept i x.kept (step_tells answer) kept all → Lends s.book i x.book (step_tells answer) book books
-      → ToldLength s.length i x.length (step_tells answer)
-      → FamilyMoves s (FamilyEvent.turns s.family x (record { family = g; answer = Served i answer }) kept scratch book)
-      (record { family = g; kept = all; book = books; length = lengths_after s.length i (step_tells answer) })
+  serves : {s : FamilyStanding} {x : StepInputs} {g : Family} {i : ℕ} {answer : Answered Stepped} {kept : List ℕ} {scratch : List ℤ} {book : List ℕ} {all books : ℕ → List ℕ}
+      → TurnContract s.family x (record { family = g; answer = Some (record { member = i; stepped = answer }) }) kept scratch book
+      → Lends s.kept i x.kept answer kept all → Lends s.book i x.book answer book books
+      → ToldLength s.length i x.length answer
+      → FamilyMoves s (FamilyEvent.turns s.family x (record { family = g; answer = Some (record { member = i; stepped = answer }) }) kept scratch book)
+      (record { family = g; kept = all; book = books; length = lengths_after s.length i answer })
   idles : {s : FamilyStanding} {x : StepInputs} {g : Family} {kept : List ℕ} {scratch : List ℤ} {book : List ℕ}
-      → TurnContract s.family x (record { family = g; answer = Idle }) kept scratch book
-      → FamilyMoves s (FamilyEvent.turns s.family x (record { family = g; answer = Idle }) kept scratch book)
+      → TurnContract s.family x (record { family = g; answer = None }) kept scratch book
+      → FamilyMoves s (FamilyEvent.turns s.family x (record { family = g; answer = None }) kept scratch book)
       (record { family = g; kept = s.kept; book = s.book; length = s.length })
   books : {s : FamilyStanding} {i : ℕ} {e : StartEvent} {l : ℕ}
-      → StartPromised e → book_start_tells e.answer ≡ accepted l → (member_at s.family i).opened ≡ true → e.total ≡ total_of s.family i
+      → StartPromised e → e.answer ≡ Ok l → (member_at s.family i).opened ≡ true → e.total ≡ total_of s.family i
       → FamilyMoves s (FamilyEvent.books s.family i e)
       (record { family = s.family; kept = s.kept; book = place s.book i e.left; length = place s.length i l })
 
@@ -109,15 +101,15 @@ only false x = []
 
 -- a call of a member, with what the family held of it and the room that it had
 pub data MemberEvent : Type 0 where
-  opens : (m : Member) (space : ℤ) (kept : List ℕ) (k : ℕ) (answer : Opened) → MemberEvent
-  steps : (m : Member) (space : ℤ) (x : StepInputs) (answer : Stepped) (kept : List ℕ) (scratch : List ℤ) (book : List ℕ) → MemberEvent
-  registers : (m : Member) (answer : Registered) → MemberEvent
+  opens : (m : Member) (space : ℤ) (kept : List ℕ) (k : ℕ) (answer : Answered Balance) → MemberEvent
+  steps : (m : Member) (space : ℤ) (x : StepInputs) (answer : Answered Stepped) (kept : List ℕ) (scratch : List ℤ) (book : List ℕ) → MemberEvent
+  registers : (m : Member) (answer : Checked) → MemberEvent
   books : (m : Member) (e : StartEvent) → MemberEvent
 
 -- a turn that serves member j is a step of j
-abbrev pub own_turn : ℕ → Family → StepInputs → Turned → List ℕ → List ℤ → List ℕ → List MemberEvent
-own_turn i f x Idle kept scratch book = []
-own_turn i f x (Served j answer) kept scratch book = only (eqb j i) (MemberEvent.steps (member_at f j) (room f j) x answer kept scratch book)
+abbrev pub own_turn : ℕ → Family → StepInputs → Option Served → List ℕ → List ℤ → List ℕ → List MemberEvent
+own_turn i f x None kept scratch book = []
+own_turn i f x (Some r) kept scratch book = only (eqb r.member i) (MemberEvent.steps (member_at f r.member) (room f r.member) x r.stepped kept scratch book)
 
 abbrev pub own_of : ℕ → FamilyEvent → List MemberEvent
 own_of i (FamilyEvent.opens f j kept k r) = only (eqb j i) (MemberEvent.opens (member_at f j) (room f j) kept k r.answer)
@@ -145,15 +137,15 @@ view (MemberEvent.books m e) = starting e.total e.buffer
 -- what it is told: the answer, and what its call left in the lists lent
 pub data Told : Type 0 where
   opened : Answered Balance → Told
-  stepped : Answered StepResult → List ℕ → List ℤ → List ℕ → Told
+  stepped : Answered Stepped → List ℕ → List ℤ → List ℕ → Told
   registered : Answered Unit → Told
   started : Answered ℕ → List ℕ → Told
 
 abbrev pub told : MemberEvent → Told
-told (MemberEvent.opens m space kept k answer) = opened (open_tells answer)
-told (MemberEvent.steps m space x answer kept scratch book) = stepped (step_tells answer) kept scratch book
-told (MemberEvent.registers m answer) = registered (register_tells answer)
-told (MemberEvent.books m e) = started (book_start_tells e.answer) e.left
+told (MemberEvent.opens m space kept k answer) = opened answer
+told (MemberEvent.steps m space x answer kept scratch book) = stepped answer kept scratch book
+told (MemberEvent.registers m answer) = registered answer
+told (MemberEvent.books m e) = started e.answer e.left
 
 -- what it holds: whether it is open, its total, its masses and its book
 pub record Held : Type 0 where
@@ -225,11 +217,11 @@ pub record StartsFrom (m : Member) (e : StartEvent) : Type 0 where
   pub is_open : m.opened ≡ true
   pub from : e.total ≡ m.total
   pub size : ℕ
-  pub accepts : book_start_tells e.answer ≡ accepted size
+  pub accepts : e.answer ≡ Ok size
 
 abbrev pub LentOwn : MemberEvent → Held → Type 0
 LentOwn (MemberEvent.opens m space kept k answer) h = Unit
-LentOwn (MemberEvent.steps m space x answer kept scratch book) h = Accepts (step_tells answer) → LentWhole x h
+LentOwn (MemberEvent.steps m space x answer kept scratch book) h = Accepts answer → LentWhole x h
 LentOwn (MemberEvent.registers m answer) h = Unit
 LentOwn (MemberEvent.books m e) h = StartsFrom m e
 
@@ -251,21 +243,21 @@ pub record MemberMoves (t : Terms) (i : ℕ) (h : Held) (e : MemberEvent) (h' : 
 
 -- the balances of its accepted openings
 abbrev pub balance_told : Answered Balance → List Balance
-balance_told (accepted b) = b ∷ []
-balance_told (refused number place) = []
+balance_told (Ok b) = b ∷ []
+balance_told (Err r) = []
 
 abbrev pub opening_of : MemberEvent → List Balance
-opening_of (MemberEvent.opens m space kept k answer) = balance_told (open_tells answer)
+opening_of (MemberEvent.opens m space kept k answer) = balance_told answer
 opening_of (MemberEvent.steps m space x answer kept scratch book) = []
 opening_of (MemberEvent.registers m answer) = []
 opening_of (MemberEvent.books m e) = []
 
 -- its Steps: the calls of which Step by itself says the same. A refusal with 19 or 20 or for another n is the family's own.
 unfoldable pub same : Checked → Checked → Bool
-same Pass Pass = true
-same Pass (Fail number place) = false
-same (Fail number place) Pass = false
-same (Fail number place) (Fail number' place') = eqb number number' && eqb place place'
+same (Ok u) (Ok w) = true
+same (Ok tt) (Err r) = false
+same (Err r) (Ok tt) = false
+same (Err r) (Err e) = eqb r.number e.number && eqb r.place e.place
 
 abbrev pub act_of : Terms → ℕ → MemberEvent → List Act
 act_of t i (MemberEvent.opens m space kept k answer) = []
@@ -288,20 +280,20 @@ steps_of t i es = steps_in (acts_of t i es)
 -- ---- turns
 
 -- the turns among calls, idle ones too
-abbrev pub turns_of : FamilyEvent → List Turned
+abbrev pub turns_of : FamilyEvent → List (Option Served)
 turns_of (FamilyEvent.opens f i kept k r) = []
 turns_of (FamilyEvent.steps f i x r kept scratch book) = []
 turns_of (FamilyEvent.registers f i r) = []
 turns_of (FamilyEvent.turns f x r kept scratch book) = r.answer ∷ []
 turns_of (FamilyEvent.books f i e) = []
 
-abbrev pub turns_in : List FamilyEvent → List Turned
+abbrev pub turns_in : List FamilyEvent → List (Option Served)
 turns_in es = collect turns_of es
 
 -- whom they served, in their order: outside a turn nobody is served
-abbrev pub served_by : Turned → List ℕ
-served_by Idle = []
-served_by (Served i answer) = i ∷ []
+abbrev pub served_by : Option Served → List ℕ
+served_by None = []
+served_by (Some r) = r.member ∷ []
 
 abbrev pub served_of : FamilyEvent → List ℕ
 served_of (FamilyEvent.opens f i kept k r) = []

@@ -2,9 +2,8 @@
 -- that the others leave it, and of nothing else. Assumes nothing.
 use Rattle.std.specs.Prelude.{not, ◌&&◌, ◌||◌, List, [], ◌∷◌, ◌++◌, ℕ, leb, eqb, ℤ, pos, length}
 use Rattle.std.specs.Int.Signed.{le_z}
-use Rattle.numbers.specs.declared.Checked.{Checked}
 use Rattle.numbers.specs.Lists.{sum}
-use Rattle.numbers.specs.Checks.{unless, first}
+use Rattle.numbers.specs.Checks.{Checked, unless, first}
 use Rattle.qlt_spec.specs.Field.{Lists, cells, scratch_per_node}
 use Rattle.kept_spec.specs.Open.{open_checks_with}
 use Rattle.kept_spec.specs.Step.{StepCall, step_call, new_total, check_same_scale, step_checks_with}

@@ -1,26 +1,17 @@
 -- The operations of a family: what each answers, the family that it gives, and the lists that it leaves. A refused call gives the family back
 -- as it came and writes no list; a turn is never refused itself, and the step that it calls may be. Assumes nothing.
-use Rattle.std.specs.Prelude.{◌≡◌, List, [], ◌∷◌, ℕ, suc, ◌%◌, ℤ}
+use Rattle.std.specs.Prelude.{Ok, Err, Some, None, Option, ◌≡◌, List, [], ◌∷◌, ℕ, suc, ◌%◌, ℤ}
 use Rattle.std.specs.Int.Count.{ones}
-use Rattle.numbers.specs.declared.Checked.{Checked}
 use Rattle.numbers.specs.Lists.{sum}
-use Rattle.numbers.specs.Checks.{Answered, accepted, refused, answered, after, first, check_count, check_scale}
+use Rattle.numbers.specs.Checks.{Checked, Answered, answered, after, first, check_count, check_scale}
 use Rattle.book_spec.specs.Book.{book}
+use Rattle.kept_spec.specs.declared.Stepped.{Stepped}
+use Rattle.kept_spec.specs.declared.Balance.{Balance}
 use Rattle.kept_spec.specs.Open.{OpenBy}
-use Rattle.kept_spec.specs.Step.{new_total, StepResult, StepBy}
+use Rattle.kept_spec.specs.Step.{new_total, StepBy}
 use Rattle.family_spec.specs.declared.Family.{Family}
-use Rattle.family_spec.specs.declared.Started.{Started}
-use Rattle.family_spec.specs.declared.Started.TheVariants.{Done, Refused}
-use Rattle.family_spec.specs.declared.Registered.{Registered}
-use Rattle.family_spec.specs.declared.Registered.TheVariants as registered
-use Rattle.family_spec.specs.declared.NextMember.{NextMember}
-use Rattle.family_spec.specs.declared.NextMember.TheVariants as next
-use Rattle.family_spec.specs.declared.Turned.TheVariants.{Idle, Served}
-use Rattle.family_spec.specs.declared.FamilyStarted.{FamilyStarted}
-use Rattle.family_spec.specs.declared.FamilyOpened.{FamilyOpened}
-use Rattle.family_spec.specs.declared.FamilyStepped.{FamilyStepped}
-use Rattle.family_spec.specs.declared.FamilyRegistered.{FamilyRegistered}
-use Rattle.family_spec.specs.declared.FamilyTurned.{FamilyTurned}
+use Rattle.family_spec.specs.declared.Served.{Served}
+use Rattle.family_spec.specs.declared.FamilyAnswer.{FamilyAnswer}
 use Rattle.family_spec.specs.Family.{open_with, member_at, put, schedule, begun, room, terms}
 use Rattle.family_spec.specs.Waiting.{with_bit, without_bit, first_waiting}
 use Rattle.family_spec.specs.Member.{check_opened, opening_verdict, StepInputs, call_of, stepping_verdict}
@@ -30,18 +21,9 @@ use Rattle.family_spec.specs.Member.{check_opened, opening_verdict, StepInputs, 
 unfoldable pub start_verdict : ℕ → ℕ → Checked
 start_verdict scale cells = first (check_count cells ∷ check_scale scale ∷ [])
 
--- what an answer tells, and the answer that tells it
-unfoldable pub start_tells : Started → Answered Unit
-start_tells Done = accepted tt
-start_tells (Refused number place) = refused number place
-
-abbrev pub start_answer : Answered Unit → Started
-start_answer (accepted u) = Done
-start_answer (refused number place) = Refused number place
-
 -- a refused start gives a family without cells
-pub record StartContract (cap scale cells : ℕ) (r : FamilyStarted) : Type 0 where
-  pub answers : start_tells r.answer ≡ answered (start_verdict scale cells) tt
+pub record StartContract (cap scale cells : ℕ) (r : FamilyAnswer Checked) : Type 0 where
+  pub answers : r.answer ≡ answered (start_verdict scale cells) tt
   pub gives : r.family ≡ after (start_verdict scale cells) (begun cap scale cells) (begun 0 0 0)
 
 -- ---- open, of member i at the scale k
@@ -49,22 +31,22 @@ pub record StartContract (cap scale cells : ℕ) (r : FamilyStarted) : Type 0 wh
 abbrev pub open_member_verdict : Family → ℕ → List ℕ → ℕ → Checked
 open_member_verdict f i kept k = opening_verdict (terms f) i (member_at f i) (room f i) kept k
 
-pub record OpenMemberContract (f : Family) (i : ℕ) (kept : List ℕ) (k : ℕ) (r : FamilyOpened) : Type 0 where
+pub record OpenMemberContract (f : Family) (i : ℕ) (kept : List ℕ) (k : ℕ) (r : FamilyAnswer (Answered Balance)) : Type 0 where
   pub tells : OpenBy (open_member_verdict f i kept k) kept k r.answer
   pub gives : r.family ≡ after (open_member_verdict f i kept k) (put f i (open_with (sum kept))) f
 
 -- ---- step, of member i
 
 -- the family after a step that told this: it takes over the total of an accepted one
-abbrev pub taken : Family → ℕ → Answered StepResult → Family
-taken f i (accepted r) = put f i (open_with r.balance.total)
-taken f i (refused number place) = f
+abbrev pub taken : Family → ℕ → Answered Stepped → Family
+taken f i (Ok r) = put f i (open_with r.balance.total)
+taken f i (Err r) = f
 
 abbrev pub step_member_verdict : Family → ℕ → StepInputs → Checked
 step_member_verdict f i x = stepping_verdict (terms f) i (member_at f i) (room f i) x
 
 -- it answers and leaves what the Step of the member's balance does, by the family's verdict
-pub record StepMemberContract (f : Family) (i : ℕ) (x : StepInputs) (r : FamilyStepped) (kept : List ℕ) (scratch : List ℤ) (book : List ℕ) : Type 0 where
+pub record StepMemberContract (f : Family) (i : ℕ) (x : StepInputs) (r : FamilyAnswer (Answered Stepped)) (kept : List ℕ) (scratch : List ℤ) (book : List ℕ) : Type 0 where
   pub tells : StepBy (step_member_verdict f i x) (call_of (terms f) (member_at f i) x) r.answer kept scratch book
   pub gives : r.family ≡ after (step_member_verdict f i x) (put f i (open_with (new_total (call_of (terms f) (member_at f i) x)))) f
 
@@ -73,23 +55,15 @@ pub record StepMemberContract (f : Family) (i : ℕ) (x : StepInputs) (r : Famil
 abbrev pub register_verdict : Family → ℕ → Checked
 register_verdict f i = check_opened i (member_at f i)
 
-unfoldable pub register_tells : Registered → Answered Unit
-register_tells registered.Done = accepted tt
-register_tells (registered.Refused number place) = refused number place
-
-abbrev pub register_answer : Answered Unit → Registered
-register_answer (accepted u) = registered.Done
-register_answer (refused number place) = registered.Refused number place
-
 -- it waits from then on; the search begins where it did
-pub record RegisterContract (f : Family) (i : ℕ) (r : FamilyRegistered) : Type 0 where
-  pub answers : register_tells r.answer ≡ answered (register_verdict f i) tt
+pub record RegisterContract (f : Family) (i : ℕ) (r : FamilyAnswer Checked) : Type 0 where
+  pub answers : r.answer ≡ answered (register_verdict f i) tt
   pub gives : r.family ≡ after (register_verdict f i) (schedule f (with_bit f.waiting i) f.from) f
 
 -- ---- the next in turn, and the number waiting: both read the family alone
 
 -- 'the first waiting after the last one served, going round' (02)
-unfoldable pub next_member : Family → NextMember
+unfoldable pub next_member : Family → Option ℕ
 next_member f = first_waiting f.waiting f.from 8
 
 -- 'the count of set bits in the waiting byte' (02)
@@ -103,23 +77,23 @@ abbrev pub serve : Family → ℕ → Family
 serve f i = schedule f (without_bit f.waiting i) (suc i % 8)
 
 -- nobody waits: nothing changes
-pub record IdleTurn (f : Family) (x : StepInputs) (r : FamilyTurned) (kept : List ℕ) (scratch : List ℤ) (book : List ℕ) : Type 0 where
-  pub answers : r.answer ≡ Idle
+pub record IdleTurn (f : Family) (x : StepInputs) (r : FamilyAnswer (Option Served)) (kept : List ℕ) (scratch : List ℤ) (book : List ℕ) : Type 0 where
+  pub answers : r.answer ≡ None
   pub gives : r.family ≡ f
   pub keeps : kept ≡ x.kept
   pub leaves : scratch ≡ x.scratch
   pub files : book ≡ x.book
 
 -- member i is served: its step is called, accepted or not
-pub record ServingTurn (f : Family) (i : ℕ) (x : StepInputs) (r : FamilyTurned) (kept : List ℕ) (scratch : List ℤ) (book : List ℕ) : Type 0 where
-  pub step : FamilyStepped
+pub record ServingTurn (f : Family) (i : ℕ) (x : StepInputs) (r : FamilyAnswer (Option Served)) (kept : List ℕ) (scratch : List ℤ) (book : List ℕ) : Type 0 where
+  pub step : FamilyAnswer (Answered Stepped)
   pub contract : StepMemberContract f i x step kept scratch book
-  pub answers : r.answer ≡ Served i step.answer
+  pub answers : r.answer ≡ Some (record { member = i; stepped = step.answer })
   pub gives : r.family ≡ serve step.family i
 
-abbrev pub TurnBy : NextMember → Family → StepInputs → FamilyTurned → List ℕ → List ℤ → List ℕ → Type 0
-TurnBy next.Nobody f x r kept scratch book = IdleTurn f x r kept scratch book
-TurnBy (next.Member i) f x r kept scratch book = ServingTurn f i x r kept scratch book
+abbrev pub TurnBy : Option ℕ → Family → StepInputs → FamilyAnswer (Option Served) → List ℕ → List ℤ → List ℕ → Type 0
+TurnBy None f x r kept scratch book = IdleTurn f x r kept scratch book
+TurnBy (Some i) f x r kept scratch book = ServingTurn f i x r kept scratch book
 
-pub record TurnContract (f : Family) (x : StepInputs) (r : FamilyTurned) (kept : List ℕ) (scratch : List ℤ) (book : List ℕ) : Type 0 where
+pub record TurnContract (f : Family) (x : StepInputs) (r : FamilyAnswer (Option Served)) (kept : List ℕ) (scratch : List ℤ) (book : List ℕ) : Type 0 where
   pub serves_next : TurnBy (next_member f) f x r kept scratch book

@@ -1,8 +1,6 @@
 -- Who waits, as a byte with a bit for each member, and who is next. Assumes nothing.
-use Rattle.std.specs.Prelude.{Bool, cond, ℕ, zero, suc, ◌+◌, ◌-◌, ◌/◌, ◌%◌, ◌^◌, eqb}
+use Rattle.std.specs.Prelude.{Some, None, Option, Bool, cond, ℕ, zero, suc, ◌+◌, ◌-◌, ◌/◌, ◌%◌, ◌^◌, eqb}
 use Rattle.numbers.specs.Sums.{ℕ_adds, sum_to, pick}
-use Rattle.family_spec.specs.declared.NextMember.{NextMember}
-use Rattle.family_spec.specs.declared.NextMember.TheVariants as next
 
 -- member i waits: its bit is set
 unfoldable pub waits : ℕ → ℕ → Bool
@@ -16,9 +14,9 @@ unfoldable pub without_bit : ℕ → ℕ → ℕ
 without_bit byte i = cond (waits byte i) (byte - 2 ^ i) byte
 
 -- of the k members from i on, going round, the first that waits
-unfoldable pub first_waiting : ℕ → ℕ → ℕ → NextMember
-first_waiting byte i zero = next.Nobody
-first_waiting byte i (suc k) = cond (waits byte (i % 8)) (next.Member (i % 8)) (first_waiting byte (suc i) k)
+unfoldable pub first_waiting : ℕ → ℕ → ℕ → Option ℕ
+first_waiting byte i zero = None
+first_waiting byte i (suc k) = cond (waits byte (i % 8)) (Some (i % 8)) (first_waiting byte (suc i) k)
 
 -- how many members wait
 unfoldable pub members_waiting : ℕ → ℕ

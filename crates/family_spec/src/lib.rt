@@ -1,9 +1,13 @@
 // Families of kept fields under one cap, with turns (02): what Start, Open, Step and Register of a member and Turn check, answer and give back,
-// histories of these calls, and the theorems about every history. Definitions (specs/) and laws (proofs/) alone; the code is in the crate `family`. Relies on `kept_spec`,
-// `qlt_spec` and `numbers`.
+// histories of these calls, and the theorems about every history. Definitions (specs/) and laws (proofs/) alone; the code is in the crate `family`.
+// Relies on `kept_spec`, `book_spec`, `blocks`, `qlt_spec`, `caas_spec` and `numbers`.
 #![tactic(auto)]
 
-// What a family holds of a member: whether it is open, and its total, 0 for one that is not.
+use kept_spec::Stepped;
+use numbers::Refusal;
+
+// What a family holds of a member: whether it is open, and its total, 0 for one that is not. No `Option<u32>`, since a family that comes from C can
+// have a member that is not open with a total that is not 0, and the contracts speak of it.
 #[derive(Clone, Copy)]
 pub struct Member {
     pub opened: bool,
@@ -22,64 +26,16 @@ pub struct Family {
     pub from: u32,
 }
 
-// The answer of a start.
+// What a turn serves: the member, and the answer of its step.
 #[derive(Clone, Copy)]
-pub enum Started {
-    Done,
-    Refused { number: u32, place: u32 },
+pub struct Served {
+    pub member: u32,
+    pub stepped: Result<Stepped, Refusal>,
 }
 
-// The answer of a registration.
+// What each call gives: the family for the next call, and its answer.
 #[derive(Clone, Copy)]
-pub enum Registered {
-    Done,
-    Refused { number: u32, place: u32 },
-}
-
-// Who is next in turn.
-#[derive(Clone, Copy)]
-pub enum NextMember {
-    Member(u32),
-    Nobody,
-}
-
-// The answer of a turn: nobody waited, or the member that it served and the answer of that member's step.
-#[derive(Clone, Copy)]
-pub enum Turned {
-    Idle,
-    Served {
-        member: u32,
-        stepped: kept_spec::Stepped,
-    },
-}
-
-// What each call gives: its answer, and the family for the next call.
-#[derive(Clone, Copy)]
-pub struct FamilyStarted {
+pub struct FamilyAnswer<T> {
     pub family: Family,
-    pub answer: Started,
-}
-
-#[derive(Clone, Copy)]
-pub struct FamilyOpened {
-    pub family: Family,
-    pub answer: kept_spec::Opened,
-}
-
-#[derive(Clone, Copy)]
-pub struct FamilyStepped {
-    pub family: Family,
-    pub answer: kept_spec::Stepped,
-}
-
-#[derive(Clone, Copy)]
-pub struct FamilyRegistered {
-    pub family: Family,
-    pub answer: Registered,
-}
-
-#[derive(Clone, Copy)]
-pub struct FamilyTurned {
-    pub family: Family,
-    pub answer: Turned,
+    pub answer: T,
 }

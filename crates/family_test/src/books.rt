@@ -1,8 +1,7 @@
 // The books of the members: a buffer of 32768 bytes for each of 8 members in one list, and their lengths.
-ghost use Rattle.std.specs.Prelude.{◌+◌, ◌≤◌, ◌<◌, length};
+ghost use Rattle.std.specs.Prelude.{◌≤◌, ◌<◌};
 
 use book::start_book;
-use book_spec::BookStarted;
 
 // The place of a member's length.
 fn slot(member: u32) -> usize
@@ -28,18 +27,10 @@ pub fn keep_length(length: usize, member: u32, lengths: &mut [usize; 8]) {
     lengths[slot(member)] = length;
 }
 
-// Starts a book in the buffer that begins at a place.
-fn start_at(total: u32, at: usize, books: &mut [u8]) -> BookStarted
-    requires { (at ≤ 229376) × (at + 32768 ≤ length books.old) }
-{
-    let end = at + 32768;
-    start_book(total, &mut books[at..end])
-}
-
 // Starts the book of a member that was opened with a total.
 pub fn start(total: u32, member: u32, books: &mut [u8; 262144], lengths: &mut [usize; 8]) {
-    let started = start_at(total, place(member), books);
-    if let BookStarted::Length(length) = started {
+    let at = place(member);
+    if let Ok(length) = start_book(total, &mut books[at..at + 32768]) {
         keep_length(length, member, lengths);
     }
 }

@@ -1,18 +1,17 @@
 // The calls: a member and a kind drawn, an opening, a registration, a step or a turn made, and what it told counted.
-ghost use Rattle.std.specs.Prelude.{◌+◌, ◌≤◌, length};
-
 use crate::Run;
 use crate::books::{keep_length, length_of, place, start};
 use crate::faults::{
     given_cells, given_nodes, given_number, given_scale, given_scratch, given_source,
     opening_fault, spoil,
 };
-use crate::masses::{draw_masses, fill_with, load, store};
+use crate::masses::{draw_masses, load, store};
 use crate::waits::{idle, served};
 use family::{open_member, step_member};
-use family_spec::{Family, FamilyOpened, FamilyTurned, NextMember, Registered, Turned};
-use kept_spec::{Opened, Stepped};
-use qlt_spec::Repair;
+use family_spec::{Family, FamilyAnswer, Served};
+use kept_spec::Stepped;
+use numbers::Refusal;
+use qlt_spec::{FieldLists, Repair};
 use test_support::draws::{draw, more};
 use test_support::fields::{cross, fill, fill_parents, nodes};
 use turns::{next_member, register, turn, waiting_count};
@@ -22,38 +21,33 @@ fn taken(told: u64, value: u64) -> u64 {
     (told % 1000000007 * 31 + value % 1000000000000) % 1000000007
 }
 
-// The check number with a member.
-fn taken_member(told: u64, opened: bool, total: u32) -> u64 {
-    let first = taken(told, if opened { 1 } else { 0 });
-    taken(first, total as u64)
-}
-
 // The check number with every member of a family.
 fn taken_members(told: u64, family: Family) -> u64 {
     let mut now = told;
-    let mut j: usize = 0;
-    while j < 8 {
-        now = taken_member(now, family.members[j].opened, family.members[j].total);
-        j += 1;
+    for member in family.members.iter() {
+        now = taken(
+            taken(now, u64::from(member.opened)),
+            u64::from(member.total),
+        );
     }
     now
 }
 
 // The next in turn, or 8 for nobody.
 fn next_number(family: Family) -> u32 {
-    match next_member(family) {
-        NextMember::Member(member) => member,
-        NextMember::Nobody => 8,
-    }
+    next_member(family).unwrap_or(8)
 }
 
 // The check number with a family: its members, who waits, where the search begins, the next in turn and the number waiting.
 fn taken_family(told: u64, family: Family) -> u64 {
     let members = taken_members(told, family);
-    let waits = taken(taken(members, family.waiting as u64), family.from as u64);
+    let waits = taken(
+        taken(members, u64::from(family.waiting)),
+        u64::from(family.from),
+    );
     taken(
-        taken(waits, next_number(family) as u64),
-        waiting_count(family) as u64,
+        taken(waits, u64::from(next_number(family))),
+        u64::from(waiting_count(family)),
     )
 }
 
@@ -63,9 +57,9 @@ fn accepted(run: Run, state: u32, family: Family, told: u64, shared: u64) -> Run
         state,
         family,
         accepted: more(run.accepted),
-        refused: run.refused,
         told: taken_family(told, family),
         shared: run.shared % 1000000000000 + shared % 1000000000000,
+        ..run
     }
 }
 
@@ -75,21 +69,23 @@ fn refused(
     state: u32,
     family: Family,
     told: u64,
-    number: u32,
-    place: u32,
+    refusal: Refusal,
     counts: &mut [u32; 21],
 ) -> Run {
+    let number = refusal.number as usize;
     if number < 21 {
-        counts[number as usize] = more(counts[number as usize]);
+        counts[number] = more(counts[number]);
     }
-    let with_refusal = taken(taken(told, number as u64), place as u64);
+    let with_refusal = taken(
+        taken(told, u64::from(refusal.number)),
+        u64::from(refusal.place),
+    );
     Run {
         state,
         family,
-        accepted: run.accepted,
         refused: more(run.refused),
         told: taken_family(with_refusal, family),
-        shared: run.shared,
+        ..run
     }
 }
 
@@ -98,32 +94,22 @@ fn idled(run: Run, state: u32, family: Family) -> Run {
     Run {
         state,
         family,
-        accepted: run.accepted,
-        refused: run.refused,
         told: taken_family(taken(run.told, 8), family),
-        shared: run.shared,
+        ..run
     }
 }
 
 // The masses by the fault of an opening.
 fn spoil_masses(fault: u32, masses: &mut [u32; 8]) {
     if fault == 4 {
-        fill_with(300000000, masses);
+        masses.fill(300000000);
     }
     if fault == 5 {
-        fill_with(30000, masses);
+        masses.fill(30000);
     }
 }
 
-// Opens with the first masses.
-fn open_by(family: Family, number: u32, masses: &[u32; 8], cells: usize, scale: u32) -> FamilyOpened
-    requires { cells ≤ 8 }
-{
-    let all = &masses[..];
-    open_member(family, number, &all[0..cells], scale)
-}
-
-// Draws masses, and opens the member with them; its book opens with their total.
+// Draws masses, and opens the member with the first of them; its book opens with their total.
 fn open_call(
     run: Run,
     state: u32,
@@ -138,32 +124,23 @@ fn open_call(
     let drawn = draw(next, 60);
     let fault = opening_fault(drawn.value);
     spoil_masses(fault, &mut masses);
-    let opened = open_by(
+    let opened = open_member(
         run.family,
         given_number(member, fault == 0),
-        &masses,
-        given_cells(fault == 1),
+        &masses[..given_cells(fault == 1)],
         given_scale(fault == 2, fault == 3),
     );
-    let answer = opened.answer;
-    match answer {
-        Opened::Accepted(balance) => {
+    match opened.answer {
+        Ok(balance) => {
             store(&masses, member, kept);
             start(balance.total, member, books, lengths);
-            let told = taken(taken(run.told, balance.total as u64), balance.scale as u64);
+            let told = taken(
+                taken(run.told, u64::from(balance.total)),
+                u64::from(balance.scale),
+            );
             accepted(run, drawn.state, opened.family, told, 0)
         }
-        Opened::Refused { number, place } => {
-            refused(
-                run,
-                drawn.state,
-                opened.family,
-                run.told,
-                number,
-                place,
-                counts,
-            )
-        }
+        Err(refusal) => refused(run, drawn.state, opened.family, run.told, refusal, counts),
     }
 }
 
@@ -172,34 +149,32 @@ fn register_call(run: Run, state: u32, member: u32, counts: &mut [u32; 21]) -> R
     let drawn = draw(state, 8);
     let given = given_number(member, drawn.value == 0);
     let registered = register(run.family, given);
-    let answer = registered.answer;
-    match answer {
-        Registered::Done => {
-            let told = taken(run.told, given as u64);
+    match registered.answer {
+        Ok(()) => {
+            let told = taken(run.told, u64::from(given));
             accepted(run, drawn.state, registered.family, told, 0)
         }
-        Registered::Refused { number, place } => {
-            refused(
-                run,
-                drawn.state,
-                registered.family,
-                run.told,
-                number,
-                place,
-                counts,
-            )
-        }
+        Err(refusal) => refused(
+            run,
+            drawn.state,
+            registered.family,
+            run.told,
+            refusal,
+            counts,
+        ),
     }
 }
 
 // What an accepted step told.
 fn taken_repair(told: u64, repair: Repair) -> u64 {
-    let first = taken(taken(told, repair.outcome as u64), repair.total as u64);
+    let first = taken(
+        taken(told, u64::from(repair.outcome)),
+        u64::from(repair.total),
+    );
     taken(taken(first, repair.change), repair.shared)
 }
 
-// Steps a member, or the next in turn, by the first cells of the targets, the first nodes of the parents, a scratch of its own and the book that begins at a
-// place of the books; what a step by itself tells is given as a turn that served its member.
+// Steps a member, or the next in turn; what a step by itself tells is given as a turn that served its member.
 fn step_by(
     family: Family,
     by_turn: bool,
@@ -207,77 +182,33 @@ fn step_by(
     masses: &mut [u32; 8],
     source: i32,
     scale: u32,
-    targets: &[i32; 8],
-    lows: &[u32; 8],
-    highs: &[u32; 8],
-    safe_lows: &[u32; 8],
-    safe_highs: &[u32; 8],
-    weights: &[u32; 8],
-    parents: &[u32; 15],
-    cells: usize,
-    m: usize,
-    room: usize,
-    books: &mut [u8],
-    at: usize,
+    field: &FieldLists,
+    scratch: &mut [i64],
+    book: &mut [u8],
     told: usize,
-) -> FamilyTurned
-    requires cells_bound { (cells ≤ 8) × (m ≤ 15) × (room ≤ 60) }
-    requires at_bound { (at ≤ 229376) × (at + 32768 ≤ length books.old) }
-{
-    let end = at + 32768;
-    let mut scratch = [0i64; 60];
-    let all_targets = &targets[..];
-    let all_parents = &parents[..];
+) -> FamilyAnswer<Option<Served>> {
     if by_turn {
-        return turn(
-            family,
-            masses,
-            source,
-            scale,
-            &all_targets[0..cells],
-            lows,
-            highs,
-            safe_lows,
-            safe_highs,
-            weights,
-            &all_parents[0..m],
-            &mut scratch[0..room],
-            &mut books[at..end],
-            told,
-        );
+        return turn(family, masses, source, scale, field, scratch, book, told);
     }
     let step = step_member(
-        family,
-        number,
-        masses,
-        source,
-        scale,
-        &all_targets[0..cells],
-        lows,
-        highs,
-        safe_lows,
-        safe_highs,
-        weights,
-        &all_parents[0..m],
-        &mut scratch[0..room],
-        &mut books[at..end],
-        told,
+        family, number, masses, source, scale, field, scratch, book, told,
     );
-    let stepped = step.answer;
-    let after = step.family;
-    FamilyTurned {
-        family: after,
-        answer: Turned::Served {
+    FamilyAnswer {
+        family: step.family,
+        answer: Some(Served {
             member: number,
-            stepped,
-        },
+            stepped: step.answer,
+        }),
     }
 }
 
 // The member whose masses and book are lent: the one drawn, or in a turn the next, if there is one.
 fn lent_member(family: Family, member: u32, by_turn: bool) -> u32 {
-    let next = next_number(family);
-    if by_turn && next < 8 { next } else { member }
+    if by_turn {
+        next_member(family).unwrap_or(member)
+    } else {
+        member
+    }
 }
 
 // The run after a step that told this; if it was accepted, its masses and the length of its book are stored.
@@ -286,7 +217,7 @@ fn stepped_run(
     state: u32,
     family: Family,
     told: u64,
-    answer: Stepped,
+    answer: Result<Stepped, Refusal>,
     masses: &[u32; 8],
     lent: u32,
     kept: &mut [u32; 64],
@@ -294,24 +225,18 @@ fn stepped_run(
     counts: &mut [u32; 21],
 ) -> Run {
     match answer {
-        Stepped::Accepted {
-            repair,
-            balance: _,
-            length,
-        } => {
+        Ok(stepped) => {
             store(masses, lent, kept);
-            keep_length(length, lent, lengths);
+            keep_length(stepped.length, lent, lengths);
             accepted(
                 run,
                 state,
                 family,
-                taken_repair(told, repair),
-                repair.shared,
+                taken_repair(told, stepped.repair),
+                stepped.repair.shared,
             )
         }
-        Stepped::Refused { number, place } => {
-            refused(run, state, family, told, number, place, counts)
-        }
+        Err(refusal) => refused(run, state, family, told, refusal, counts),
     }
 }
 
@@ -362,6 +287,8 @@ fn step_call(
     let mut parents = [0u32; 15];
     fill_parents(kind.value, fault == 7, &mut parents);
     let m = nodes(kind.value);
+    let mut scratch = [0i64; 60];
+    let at = place(lent);
     let turned = step_by(
         run.family,
         by_turn,
@@ -369,33 +296,31 @@ fn step_call(
         &mut masses,
         given_source(source.value, fault),
         given_scale(fault == 5, fault == 6),
-        &targets,
-        &lows,
-        &highs,
-        &safe_lows,
-        &safe_highs,
-        &weights,
-        &parents,
-        given_cells(fault == 2),
-        given_nodes(m, fault),
-        given_scratch(m, fault),
-        books,
-        place(lent),
+        &FieldLists {
+            targets: &targets[..given_cells(fault == 2)],
+            lows: &lows,
+            highs: &highs,
+            safe_lows: &safe_lows,
+            safe_highs: &safe_highs,
+            weights: &weights,
+            parents: &parents[..given_nodes(m, fault)],
+        },
+        &mut scratch[..given_scratch(m, fault)],
+        &mut books[at..at + 32768],
         length_of(lengths, lent),
     );
-    let answer = turned.answer;
-    match answer {
-        Turned::Idle => {
+    match turned.answer {
+        None => {
             idle(turns);
             idled(run, drawn.state, turned.family)
         }
-        Turned::Served { member, stepped } => {
+        Some(Served { member, stepped }) => {
             count_turn(by_turn, turns, run.family.waiting, member);
             stepped_run(
                 run,
                 drawn.state,
                 turned.family,
-                taken(run.told, member as u64),
+                taken(run.told, u64::from(member)),
                 stepped,
                 &masses,
                 lent,

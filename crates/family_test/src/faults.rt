@@ -1,4 +1,4 @@
-// What a call is given, by its fault.
+// What a call is given, by its fault. A fault is the number drawn, and no enum: most numbers are none.
 ghost use Rattle.std.specs.Prelude.{◌<◌, ◌≤◌};
 
 use test_support::draws::less;

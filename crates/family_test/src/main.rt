@@ -8,12 +8,13 @@
 // the totals and at most 66000, and the longest wait at most 8. `stdout` was written by an implementation of the papers' own words in another
 // language, and not by this program. Each member has a book of its own, started from the total that it opens with and lent along with its steps;
 // nothing of it is printed. Numbers stay far below the remainders by which overflow is ruled out. Relies on `turns` and `family`, which it
-// tests, `book`, `family_spec`, `kept_spec`, `book_spec` and `qlt_spec` for the answers, `test_support`, `io`, and `numbers` in proofs.
+// tests, `book` for the books, `family_spec`, `kept_spec`, `qlt_spec` and `numbers` for the answers, and `test_support`.
 #![tactic(auto)]
 
 use calls::one_call;
 use family::start_family;
-use family_spec::{Family, Started};
+use family_spec::Family;
+use std::fmt;
 use waits::forget;
 
 mod books;
@@ -45,10 +46,8 @@ fn some_calls(
     counts: &mut [u32; 21],
 ) -> Run {
     let mut now = run;
-    let mut i: usize = 0;
-    while i < 500 {
+    for _ in 0..500 {
         now = one_call(now, kept, books, lengths, turns, counts);
-        i += 1;
     }
     now
 }
@@ -62,31 +61,22 @@ fn more_calls(
     lengths: &mut [usize; 8],
     turns: &mut [u32; 11],
     counts: &mut [u32; 21],
-) -> Run {
+) -> Result<Run, fmt::Error> {
     let mut now = run;
-    let mut i: u64 = 0;
-    while i < 4 {
+    for i in 0..4 {
         now = some_calls(now, kept, books, lengths, turns, counts);
-        i += 1;
-        output::show(done % 1000000 + i * 500, now, kept, turns);
+        output::show(done % 1000000 + (i + 1) * 500, now, kept, turns)?;
     }
-    now
+    Ok(now)
 }
 
 // The run with a family that was just started.
 fn afresh(run: Run, family: Family) -> Run {
-    Run {
-        state: run.state,
-        family,
-        accepted: run.accepted,
-        refused: run.refused,
-        told: run.told,
-        shared: run.shared,
-    }
+    Run { family, ..run }
 }
 
 // Makes 8 times 2,000 calls, from the family that was started each time.
-fn all_calls(family: Family, counts: &mut [u32; 21]) {
+fn all_calls(family: Family, counts: &mut [u32; 21]) -> fmt::Result {
     let mut now = Run {
         state: 1,
         family,
@@ -98,8 +88,7 @@ fn all_calls(family: Family, counts: &mut [u32; 21]) {
     let mut turns = [0u32; 11];
     let mut books = [0u8; 262144];
     let mut lengths = [0usize; 8];
-    let mut i: u64 = 0;
-    while i < 8 {
+    for i in 0..8 {
         let mut kept = [0u32; 64];
         forget(&mut turns);
         now = more_calls(
@@ -110,29 +99,31 @@ fn all_calls(family: Family, counts: &mut [u32; 21]) {
             &mut lengths,
             &mut turns,
             counts,
-        );
-        i += 1;
+        )?;
     }
+    Ok(())
 }
 
 // Starts a family, and prints what Start gave.
-fn show_start(scale: u32, cells: u32) {
-    let started = start_family(66000, scale, cells);
-    let answer = started.answer;
-    output::show_started(answer);
+fn show_start(scale: u32, cells: u32) -> fmt::Result {
+    output::show_started(start_family(66000, scale, cells).answer)
 }
 
 // Makes the starts, and the calls from the last one if it is accepted.
-fn main() {
-    show_start(31, 0);
-    show_start(31, 513);
-    show_start(31, 8);
-    show_start(20, 8);
+fn run_all() -> fmt::Result {
+    show_start(31, 0)?;
+    show_start(31, 513)?;
+    show_start(31, 8)?;
+    show_start(20, 8)?;
     let started = start_family(66000, 20, 8);
-    let answer = started.answer;
-    if let Started::Done = answer {
+    if started.answer.is_ok() {
         let mut counts = [0u32; 21];
-        all_calls(started.family, &mut counts);
-        output::show_counts(&counts);
+        all_calls(started.family, &mut counts)?;
+        output::show_counts(&counts)?;
     }
+    Ok(())
+}
+
+fn main() {
+    let _ = run_all();
 }

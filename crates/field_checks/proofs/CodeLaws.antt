@@ -1,37 +1,29 @@
 -- Laws for the checks in code: lengths, marks, a node's rules by its parent alone, and the outcome by sums. Assumes nothing.
+use Rattle.std.specs.Prelude.{Ok}
 use mathlib.Core.Path.{◌≡◌, refl, sym, ◌∙◌, ap, ap₂}
 use mathlib.Core.Logic.{◌≢◌}
 use mathlib.Core.Bool.{Bool, true, false, not, ◌&&◌, ◌||◌, and-false}
 use mathlib.Core.List.{List}
-use Prim.Native.Nat.{ℕ, zero, suc, ◌+◌, ◌-◌, ◌*◌, ◌≤◌, ◌<◌}
+use Prim.Native.Nat.{ℕ, zero, suc, ◌+◌, ◌<◌}
 use native.Mathlib.Omega.{arith}
 use native.Mathlib.Numerals.{add-one}
 use native.Mathlib.Decide.{ℕ_discrete}
-use lib.Dec.{eqb, leb, ltb}
-use borrow.Author.Tests.{lt-ltb, le-ltb, le-leb, lt-leb, eq-eqb, ne_eqb}
+use lib.Dec.{eqb, ltb}
+use borrow.Author.Tests.{eq-eqb, ne_eqb}
 use lib.ListN.{length, set, replicate}
 use lib.Seq.{get_or-set_same, get_or-set_other}
-use Rattle.numbers.specs.declared.Checked.TheVariants.{Pass}
 use Rattle.numbers.specs.Sums.{ℕ_adds, sum_to}
 use Rattle.numbers.specs.Lists.{at, sum}
-use Rattle.numbers.specs.Checks.{unless, both, check_length}
-use Rattle.numbers.proofs.CheckLaws.{then-length}
 use Rattle.qlt_spec.specs.Tree.{child_of, any_child, parent_ok, node_ok}
-use Rattle.qlt_spec.specs.Field.{Lists, cells, scratch_per_node, field, outcome_by, outcome}
-use Rattle.qlt_spec.specs.Checks.{check_lists, shape_of}
+use Rattle.qlt_spec.specs.Field.{Lists, cells, field, outcome_by, outcome}
+use Rattle.qlt_spec.specs.Checks.{shape_of}
 use Rattle.qlt_spec.proofs.CheckLaws.{shape-fits}
 use Rattle.field_checks.specs.Lists.{Sized, Marks}
 
 -- ---- 1 to 3
 
--- checks with one number and place, one after another, are one check
-pub lists-is : (n m k l h sl sh w s : ℕ) → both (check_length k n) (both (check_length l n) (both (check_length h n) (both (check_length sl n) (both (check_length sh n) (both (check_length w n) (unless (leb (scratch_per_node * m) s) 3 0)))))) ≡ check_lists scratch_per_node n m k l h sl sh w s
-unfolding check_lists
-lists-is n m k l h sl sh w s =
-    then-length k n _ _ (then-length l n _ _ (then-length h n _ _ (then-length sl n _ _ (then-length sh n _ _ (then-length w n _ _ refl)))))
-
 -- what 1 to 3 have shown, for the checks after them
-pub sized : (f : Lists) (k s : ℕ) → shape_of k f s ≡ Pass → Sized f
+pub sized : (f : Lists) (k s : ℕ) → shape_of k f s ≡ Ok tt → Sized f
 sized f k s e =
     let p = (shape-fits f k s).0 e in
     let l = p.lengths in
@@ -79,23 +71,6 @@ marks-turn up u p old new e long h m =
 parent-here : (up : ℕ → ℕ) (n m v p : ℕ) → p ≡ up v → parent_ok (λ w. p) n m v ≡ parent_ok up n m v
 unfolding parent_ok
 parent-here up n m v p e = rw e
-
-pub root-rule : (p n m v : ℕ) → v ≡ m - 1 → eqb p v ≡ parent_ok (λ w. p) n m v
-unfolding parent_ok
-root-rule p n m v e = sym (rw (e, eq-eqb (m - 1) (m - 1) refl))
-
-other-rule : (p n m v : ℕ) → v ≢ m - 1 → parent_ok (λ w. p) n m v ≡ (ltb v p && (leb n p && leb p (m - 1)))
-unfolding parent_ok
-other-rule p n m v h = rw (ne_eqb v (m - 1) h)
-
-pub low-rule : (p n m v : ℕ) → v ≢ m - 1 → p ≤ v → false ≡ parent_ok (λ w. p) n m v
-low-rule p n m v h l = sym (other-rule p n m v h ∙ rw (le-ltb v p l))
-
-pub cell-rule : (p n m v : ℕ) → v ≢ m - 1 → v < p → p < n → false ≡ parent_ok (λ w. p) n m v
-cell-rule p n m v h l k = sym (other-rule p n m v h ∙ rw (lt-ltb v p l, lt-leb n p k))
-
-pub top-rule : (p n m v : ℕ) → v ≢ m - 1 → v < p → n ≤ p → leb p (m - 1) ≡ parent_ok (λ w. p) n m v
-top-rule p n m v h l k = sym (other-rule p n m v h ∙ rw (lt-ltb v p l, le-leb n p k))
 
 pub good-is : (up : ℕ → ℕ) (n m v p x : ℕ) (r : Bool) → r ≡ (parent_ok (λ w. p) n m v && (ltb v n || eqb x 1)) → p ≡ up v → eqb x 1 ≡ any_child up m v → r ≡ node_ok up n m v
 unfolding node_ok

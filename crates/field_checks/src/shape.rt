@@ -1,84 +1,47 @@
 // 1 to 3: of lengths alone.
-ghost use Rattle.std.specs.Prelude.{◌≡◌, ◌*◌, ◌≤◌, leb};
-ghost use Rattle.numbers.specs.Checks.{unless};
-ghost use Rattle.qlt_spec.specs.Field.{scratch_per_node};
-ghost use Rattle.qlt_spec.specs.Checks.{check_nodes, check_lists, check_shape};
+ghost use Rattle.std.specs.Prelude.{◌≡◌, ◌≤◌, length};
+ghost use Rattle.qlt_spec.specs.Field.{scratch_per_node, lists_of, cells, nodes};
+ghost use Rattle.qlt_spec.specs.Checks.{check_nodes, check_lists, shape_of};
 
-use numbers::Checked;
-use numbers::checks::{and, check_count, check_length, then, unless};
-use qlt_spec::SCRATCH_PER_NODE;
+use numbers::Refusal;
+use numbers::checks::{check_count, unless};
+use qlt_spec::{FieldLists, SCRATCH_PER_NODE};
 
 // 2: the number of nodes is at least that of cells, and at most 1024.
-pub fn check_nodes(n: usize, m: usize) -> Checked
+#[tactic(auto, unfolding(qlt_spec::specs::Checks::check_nodes))]
+pub fn check_nodes(n: usize, m: usize) -> Result<(), Refusal>
     ensures { result ≡ check_nodes n m }
 {
-    unless(and(n <= m, m <= 1024), 2, 0)
+    unless(n <= m && m <= 1024, 2, 0)
 }
 
-// 3: the scratch has its numbers for each node.
-fn check_scratch(m: usize, scratch: usize) -> Checked
-    requires { m ≤ 1024 }
-    ensures { result ≡ unless (leb (scratch_per_node * m) scratch) 3 0 }
+// 3: lists of other lengths, `masses` that of the masses, or too short a scratch.
+#[tactic(auto, unfolding(qlt_spec::specs::Checks::check_lists))]
+fn check_lists(field: &FieldLists, masses: usize, scratch: usize) -> Result<(), Refusal>
+    requires { nodes (lists_of field.now) ≤ 1024 }
+    ensures { result ≡ check_lists scratch_per_node (cells (lists_of field.now)) (nodes (lists_of field.now)) masses (length field.now.lows.now)
+        (length field.now.highs.now) (length field.now.safe_lows.now) (length field.now.safe_highs.now) (length field.now.weights.now) scratch }
 {
-    unless(SCRATCH_PER_NODE * m <= scratch, 3, 0)
-}
-
-// 3: lists of other lengths, or too short a scratch.
-fn check_lists(
-    n: usize,
-    m: usize,
-    masses: usize,
-    lows: usize,
-    highs: usize,
-    safe_lows: usize,
-    safe_highs: usize,
-    weights: usize,
-    scratch: usize,
-) -> Checked
-    requires { m ≤ 1024 }
-    ensures { result ≡ check_lists scratch_per_node n m masses lows highs safe_lows safe_highs weights scratch }
-{
-    then(
-        check_length(masses, n),
-        then(
-            check_length(lows, n),
-            then(
-                check_length(highs, n),
-                then(
-                    check_length(safe_lows, n),
-                    then(
-                        check_length(safe_highs, n),
-                        then(check_length(weights, n), check_scratch(m, scratch)),
-                    ),
-                ),
-            ),
-        ),
+    let n = field.targets.len();
+    unless(
+        masses == n
+            && (field.lows.len() == n
+                && (field.highs.len() == n
+                    && (field.safe_lows.len() == n
+                        && (field.safe_highs.len() == n
+                            && (field.weights.len() == n
+                                && SCRATCH_PER_NODE * field.parents.len() <= scratch))))),
+        3,
+        0,
     )
 }
 
-// 1 to 3: of lengths alone.
-pub fn check_shape(
-    n: usize,
-    m: usize,
-    masses: usize,
-    lows: usize,
-    highs: usize,
-    safe_lows: usize,
-    safe_highs: usize,
-    weights: usize,
-    scratch: usize,
-) -> Checked
-    ensures { result ≡ check_shape scratch_per_node n m masses lows highs safe_lows safe_highs weights scratch }
+// 1 to 3: of lengths alone; `masses` and `scratch` are those of the masses and of the scratch.
+#[tactic(auto, unfolding(qlt_spec::specs::Checks::check_shape), using(numbers::proofs::CheckLaws::last))]
+pub fn check_shape(field: &FieldLists, masses: usize, scratch: usize) -> Result<(), Refusal>
+    ensures { result ≡ shape_of masses (lists_of field.now) scratch }
 {
-    let count = check_count(n);
-    if let Checked::Fail { number, place } = count {
-        return Checked::Fail { number, place };
-    }
-    let nodes = check_nodes(n, m);
-    if let Checked::Fail { number, place } = nodes {
-        return Checked::Fail { number, place };
-    }
-    check_lists(
-        n, m, masses, lows, highs, safe_lows, safe_highs, weights, scratch,
-    )
+    check_count(field.targets.len())?;
+    check_nodes(field.targets.len(), field.parents.len())?;
+    check_lists(field, masses, scratch)
 }

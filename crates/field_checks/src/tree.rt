@@ -5,29 +5,16 @@ ghost use Rattle.qlt_spec.specs.Tree.{child_of, parent_ok};
 ghost use Rattle.qlt_spec.specs.Checks.{check_tree};
 ghost use Rattle.field_checks.specs.Lists.{Marks};
 
-use numbers::Checked;
-use numbers::checks::fail_at;
-
-// A node's parent.
-fn parent_of(parents: &[u32], v: usize) -> usize
-    requires { v < length parents.now }
-    ensures { result ≡ at parents.now v }
-{
-    parents[v] as usize
-}
+use numbers::Refusal;
 
 // Marks p, unless u is p: u names p as its parent.
 fn mark_one(seen: &mut [u8], p: usize, u: usize)
     ensures { (v : ℕ) → v < length seen.old → eqb (at seen.new v) 1 ≡
         (child_of (λ w. p) u v || eqb (at seen.old v) 1) }
 {
-    if p == u {
-        return;
+    if p != u && p < seen.len() {
+        seen[p] = 1;
     }
-    if seen.len() <= p {
-        return;
-    }
-    seen[p] = 1;
 }
 
 // Marks each node that has a child.
@@ -35,28 +22,22 @@ fn mark(parents: &[u32], seen: &mut [u8])
     requires { Marks (at parents.now) 0 seen.old }
     ensures { Marks (at parents.now) (length parents.now) seen.new }
 {
-    let mut u: usize = 0;
-    while u < parents.len() {
-        mark_one(seen, parent_of(parents, u), u);
-        u += 1;
+    for (u, p) in parents.iter().enumerate() {
+        mark_one(seen, *p as usize, u);
     }
 }
 
 // The rules of a node's parent p.
+#[tactic(auto, unfolding(qlt_spec::specs::Tree::parent_ok))]
 fn parent_ok(p: usize, v: usize, n: usize, m: usize) -> bool
     requires { 0 < m }
     ensures { result ≡ parent_ok (λ w. p) n m v }
 {
     if v == m - 1 {
-        return p == v;
+        p == v
+    } else {
+        v < p && (n <= p && p <= m - 1)
     }
-    if p <= v {
-        return false;
-    }
-    if p < n {
-        return false;
-    }
-    p <= m - 1
 }
 
 // The rules of a node, by its parent and its mark.
@@ -64,33 +45,25 @@ fn node_good(p: usize, v: usize, n: usize, m: usize, seen: u8) -> bool
     requires { 0 < m }
     ensures { result ≡ (parent_ok (λ w. p) n m v && (ltb v n || eqb seen 1)) }
 {
-    if !parent_ok(p, v, n, m) {
-        return false;
-    }
-    if v < n {
-        return true;
-    }
-    seen == 1
+    parent_ok(p, v, n, m) && (v < n || seen == 1)
 }
 
 // The smallest node that breaks a rule, by the marks.
-fn first_bad(parents: &[u32], n: usize, seen: &[u8]) -> Checked
+fn first_bad(parents: &[u32], n: usize, seen: &[u8]) -> Result<(), Refusal>
     requires parents_in_bounds { (length parents.now ≤ length seen.now) × (length parents.now ≤ 1024) }
     requires marks { Marks (at parents.now) (length parents.now) seen.now }
     ensures { result ≡ check_tree n parents.now }
 {
-    let mut v: usize = 0;
-    while v < parents.len() {
-        if !node_good(parent_of(parents, v), v, n, parents.len(), seen[v]) {
-            return fail_at(4, v);
+    for (v, p) in parents.iter().enumerate() {
+        if !node_good(*p as usize, v, n, parents.len(), seen[v]) {
+            return Err(Refusal::at(4, v));
         }
-        v += 1;
     }
-    Checked::Pass
+    Ok(())
 }
 
 // 4: the smallest node that breaks a rule of the tree.
-pub fn check_tree(parents: &[u32], n: usize) -> Checked
+pub fn check_tree(parents: &[u32], n: usize) -> Result<(), Refusal>
     requires { length parents.now ≤ 1024 }
     ensures { result ≡ check_tree n parents.now }
 {

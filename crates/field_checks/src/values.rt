@@ -1,16 +1,17 @@
 // 5 to 7, and the chain 4 to 7. No sum can overflow, whatever the lists hold.
-ghost use Rattle.std.specs.Prelude.{◌≡◌, ◌&&◌, ◌≤◌, ◌<◌, length};
-ghost use Rattle.numbers.specs.Checks.{unless};
-ghost use Rattle.qlt_spec.specs.Field.{lists};
+ghost use Rattle.std.specs.Prelude.{◌≡◌, ◌≤◌, length};
+ghost use Rattle.qlt_spec.specs.Field.{lists_of, cells};
 ghost use Rattle.qlt_spec.specs.Checks.{bounds_ordered, check_order, check_sum, check_values};
 ghost use Rattle.field_checks.specs.Lists.{Sized};
 
 use crate::tree::check_tree;
-use numbers::Checked;
-use numbers::checks::{fail_at, unless};
+use numbers::Refusal;
+use numbers::checks::unless;
 use numbers::lists::sum_of;
+use qlt_spec::FieldLists;
 
 // A cell's bounds do not cross.
+#[tactic(auto, unfolding(qlt_spec::specs::Checks::bounds_ordered))]
 fn in_order(safe_low: u32, low: u32, high: u32, safe_high: u32) -> bool
     ensures { result ≡ bounds_ordered safe_low low high safe_high }
 {
@@ -18,24 +19,27 @@ fn in_order(safe_low: u32, low: u32, high: u32, safe_high: u32) -> bool
 }
 
 // 5: the first cell with crossed bounds.
-fn check_order(lows: &[u32], highs: &[u32], safe_lows: &[u32], safe_highs: &[u32]) -> Checked
-    requires { (length lows.now ≤ 512) × (length highs.now ≡ length lows.now) × (length safe_lows.now ≡ length lows.now) ×
-        (length safe_highs.now ≡ length lows.now) }
-    ensures { result ≡ check_order (length lows.now) lows.now highs.now safe_lows.now
-        safe_highs.now }
+fn check_order(field: &FieldLists) -> Result<(), Refusal>
+    requires { Sized (lists_of field.now) }
+    ensures { result ≡ check_order (cells (lists_of field.now)) field.now.lows.now field.now.highs.now field.now.safe_lows.now
+        field.now.safe_highs.now }
 {
-    let mut i: usize = 0;
-    while i < lows.len() {
-        if !in_order(safe_lows[i], lows[i], highs[i], safe_highs[i]) {
-            return fail_at(5, i);
+    for c in 0..field.targets.len() {
+        if !in_order(
+            field.safe_lows[c],
+            field.lows[c],
+            field.highs[c],
+            field.safe_highs[c],
+        ) {
+            return Err(Refusal::at(5, c));
         }
-        i += 1;
     }
-    Checked::Pass
+    Ok(())
 }
 
 // 6 and 7: a list that adds up to over 2147483647.
-fn check_sum(number: u32, xs: &[u32]) -> Checked
+#[tactic(auto, unfolding(qlt_spec::specs::Checks::check_sum))]
+fn check_sum(number: u32, xs: &[u32]) -> Result<(), Refusal>
     requires { length xs.now ≤ 1024 }
     ensures { result ≡ check_sum number xs.now }
 {
@@ -43,31 +47,13 @@ fn check_sum(number: u32, xs: &[u32]) -> Checked
 }
 
 // 4 to 7: of lists whose lengths are right.
-pub fn check_values(
-    targets: &[i32],
-    lows: &[u32],
-    highs: &[u32],
-    safe_lows: &[u32],
-    safe_highs: &[u32],
-    weights: &[u32],
-    parents: &[u32],
-) -> Checked
-    requires { Sized (lists targets.now lows.now highs.now safe_lows.now safe_highs.now weights.now parents.now) }
-    ensures { result ≡ check_values
-        (lists targets.now lows.now highs.now safe_lows.now safe_highs.now
-        weights.now parents.now) }
+#[tactic(auto, unfolding(qlt_spec::specs::Checks::check_values), using(numbers::proofs::CheckLaws::last))]
+pub fn check_values(field: &FieldLists) -> Result<(), Refusal>
+    requires { Sized (lists_of field.now) }
+    ensures { result ≡ check_values (lists_of field.now) }
 {
-    let tree = check_tree(parents, targets.len());
-    if let Checked::Fail { number, place } = tree {
-        return Checked::Fail { number, place };
-    }
-    let order = check_order(lows, highs, safe_lows, safe_highs);
-    if let Checked::Fail { number, place } = order {
-        return Checked::Fail { number, place };
-    }
-    let high = check_sum(6, safe_highs);
-    if let Checked::Fail { number, place } = high {
-        return Checked::Fail { number, place };
-    }
-    check_sum(7, weights)
+    check_tree(field.parents, field.targets.len())?;
+    check_order(field)?;
+    check_sum(6, field.safe_highs)?;
+    check_sum(7, field.weights)
 }

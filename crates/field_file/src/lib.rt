@@ -3,15 +3,21 @@
 // these two, `files_spec`, `block_tables`, `blocks`, `field_checks`, `qlt_spec` and `numbers`.
 #![tactic(auto)]
 
-ghost use Rattle.qlt_spec.specs.Field.{lists};
+ghost use Rattle.qlt_spec.specs.Field.{lists, lists_of};
 ghost use Rattle.files_spec.specs.ReadField.{ReadContract};
 ghost use Rattle.files_spec.specs.WriteField.{field_write_call, FieldWriteContract};
 
-use files_spec::{FieldRead, FieldWritten};
+use field_reader::work::{read_lists, sizes};
+use field_writer::sizes::file_length;
+use field_writer::work::put_field;
+use files_spec::Sizes;
+use numbers::Refusal;
+use qlt_spec::FieldLists;
 
 mod verdict;
 
 // Reads a field file into seven lists, which may be longer than the field. A refused call writes nothing.
+#[tactic(auto, using(crate::proofs::Laws::read_measured, crate::proofs::Laws::read_room))]
 pub fn read_field(
     file: &[u8],
     targets: &mut [i32],
@@ -21,7 +27,7 @@ pub fn read_field(
     safe_highs: &mut [u32],
     weights: &mut [u32],
     parents: &mut [u32],
-) -> FieldRead
+) -> Result<Sizes, Refusal>
     ensures { ReadContract file.now
         (lists targets.old lows.old highs.old safe_lows.old safe_highs.old
         weights.old parents.old)
@@ -29,14 +35,20 @@ pub fn read_field(
         (lists targets.new lows.new highs.new safe_lows.new safe_highs.new
         weights.new parents.new) }
 {
-    let head = verdict::head_verdict(
+    let room = FieldLists {
+        targets,
+        lows,
+        highs,
+        safe_lows,
+        safe_highs,
+        weights,
+        parents,
+    };
+    verdict::read_verdict(file, &room)?;
+    read_lists(
         file, targets, lows, highs, safe_lows, safe_highs, weights, parents,
     );
-    let verdict = verdict::with_later(head, file);
-    field_reader::work::read_by(
-        verdict, file, targets, lows, highs, safe_lows, safe_highs, weights, parents,
-    );
-    field_reader::work::answer_by(verdict, file)
+    Ok(sizes(file))
 }
 
 // Writes the field file of the first `cells` entries of six lists, the first `nodes` parents and the total to the front of the buffer, and
@@ -45,25 +57,12 @@ pub fn write_field(
     cells: usize,
     nodes: usize,
     total: u32,
-    targets: &[i32],
-    lows: &[u32],
-    highs: &[u32],
-    safe_lows: &[u32],
-    safe_highs: &[u32],
-    weights: &[u32],
-    parents: &[u32],
+    field: &FieldLists,
     buffer: &mut [u8],
-) -> FieldWritten
-    ensures { FieldWriteContract (field_write_call cells nodes total
-        (lists targets.now lows.now highs.now safe_lows.now safe_highs.now
-        weights.now parents.now)
-        buffer.old) result buffer.new }
+) -> Result<usize, Refusal>
+    ensures { FieldWriteContract (field_write_call cells nodes total (lists_of field.now) buffer.old) result buffer.new }
 {
-    let checked = verdict::write_verdict(
-        cells, nodes, targets, lows, highs, safe_lows, safe_highs, weights, parents, buffer,
-    );
-    field_writer::work::write_by(
-        checked, cells, nodes, total, targets, lows, highs, safe_lows, safe_highs, weights,
-        parents, buffer,
-    )
+    verdict::write_verdict(cells, nodes, field, buffer)?;
+    put_field(buffer, cells, nodes, total, field);
+    Ok(file_length(cells, nodes))
 }

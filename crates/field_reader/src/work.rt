@@ -1,18 +1,16 @@
-// What a call of Read a field file does by its verdict: the sizes and the lists of an accepted file, each word through the part of the file
-// that `payload` hands back.
+// What a call of Read a field file does once the file is accepted: the sizes and the lists, each word through the part of the file that
+// `payload` hands back.
 ghost use Rattle.std.specs.Prelude.{◌≡◌};
-ghost use Rattle.numbers.specs.declared.Checked.TheVariants.{Pass};
-ghost use Rattle.numbers.specs.Checks.{answered, after};
 ghost use Rattle.qlt_spec.specs.Field.{lists};
-ghost use Rattle.files_spec.specs.ReadField.{file_cells, file_nodes, Measured, Room, sizes_of, read_tells, lists_read};
+ghost use Rattle.files_spec.specs.ReadField.{file_cells, file_nodes, Measured, Room, sizes_of, lists_read};
 
-use block_tables::tables::{LIST, read_column, read_signed, table_blocks};
+use block_tables::tables::{LIST, read_column, table_blocks};
 use blocks::block::payload_word;
-use files_spec::{CELLS, FieldRead};
-use numbers::Checked;
+use files_spec::{CELLS, Sizes};
 
-// The seven lists.
-fn read_lists(
+// The seven lists, which may be longer than the field.
+#[tactic(auto, using(block_tables::proofs::TableLaws::list_fits, files_spec::proofs::ReadLaws::cell_fits))]
+pub fn read_lists(
     file: &[u8],
     targets: &mut [i32],
     lows: &mut [u32],
@@ -32,7 +30,7 @@ fn read_lists(
 {
     let n = payload_word(file, 1, 1) as usize;
     let m = payload_word(file, 1, 2) as usize;
-    read_signed(file, CELLS, 2, 0, n, targets);
+    read_column(file, CELLS, 2, 0, n, targets);
     read_column(file, CELLS, 2, 1, n, lows);
     read_column(file, CELLS, 2, 2, n, highs);
     read_column(file, CELLS, 2, 3, n, safe_lows);
@@ -41,44 +39,12 @@ fn read_lists(
     read_column(file, LIST, 2 + table_blocks(CELLS, n), 0, m, parents);
 }
 
-// The lists by the verdict: a refused call leaves them as they were.
-pub fn read_by(
-    verdict: Checked,
-    file: &[u8],
-    targets: &mut [i32],
-    lows: &mut [u32],
-    highs: &mut [u32],
-    safe_lows: &mut [u32],
-    safe_highs: &mut [u32],
-    weights: &mut [u32],
-    parents: &mut [u32],
-)
-    requires { verdict ≡ Pass → Measured file.now × Room (file_cells file.now) (file_nodes file.now)
-        (lists targets.old lows.old highs.old safe_lows.old safe_highs.old weights.old parents.old) }
-    ensures { lists targets.new lows.new highs.new safe_lows.new safe_highs.new
-        weights.new parents.new ≡ after verdict
-        (lists_read file.now
-        (lists targets.old lows.old highs.old safe_lows.old safe_highs.old
-        weights.old parents.old))
-        (lists targets.old lows.old highs.old safe_lows.old safe_highs.old
-        weights.old parents.old) }
+// What block 1 says: the numbers of cells and nodes, and the total.
+pub fn sizes(file: &[u8]) -> Sizes
+    requires { Measured file.now }
+    ensures { result ≡ sizes_of file.now }
 {
-    if let Checked::Pass = verdict {
-        read_lists(
-            file, targets, lows, highs, safe_lows, safe_highs, weights, parents,
-        );
-    }
-}
-
-// The answer by the verdict.
-pub fn answer_by(verdict: Checked, file: &[u8]) -> FieldRead
-    requires { verdict ≡ Pass → Measured file.now }
-    ensures { read_tells result ≡ answered verdict (sizes_of file.now) }
-{
-    if let Checked::Fail { number, place } = verdict {
-        return FieldRead::Refused { number, place };
-    }
-    FieldRead::Read {
+    Sizes {
         cells: payload_word(file, 1, 1) as usize,
         nodes: payload_word(file, 1, 2) as usize,
         total: payload_word(file, 1, 3),

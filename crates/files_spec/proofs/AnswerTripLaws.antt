@@ -1,5 +1,7 @@
 -- Answer files both ways: a file that is read is the bytes of what it holds, and a file that is written is read back. Assumes nothing.
+use Rattle.std.specs.Prelude.{Ok}
 use mathlib.Core.Path.{◌≡◌, refl, sym, ◌∙◌, ap, ap₂, subst}
+use Rattle.files_spec.specs.declared.Repaired.{Repaired}
 use mathlib.Core.Bool.{Bool, true, false, cond}
 use mathlib.Core.List.{List}
 use Prim.Native.Nat.{ℕ, zero, suc, ◌+◌, ◌*◌, ◌-◌, ◌^◌, ◌≤◌, ◌<◌}
@@ -7,10 +9,9 @@ use native.Mathlib.Omega.{arith}
 use lib.Dec.{leb}
 use lib.ListN.{length, take}
 use lib.Seq.{length-take-le, get_or-take, take_all}
-use Rattle.numbers.specs.declared.Checked.TheVariants.{Pass}
 use Rattle.numbers.specs.Sums.{ℕ_adds, sum_to}
 use Rattle.numbers.specs.Lists.{at, list_to, written, sum}
-use Rattle.numbers.specs.Checks.{accepted, answered, after}
+use Rattle.numbers.specs.Checks.{Answered, answered, after}
 use Rattle.numbers.proofs.CheckLaws.{answered-accepted}
 use Rattle.numbers.proofs.ListLaws.{get_d-list_to}
 use Rattle.numbers.proofs.PartLaws.{front-written, written-own, length-kept}
@@ -20,19 +21,15 @@ use Rattle.block_tables.specs.Tables.{table_used, table_word, list_table}
 use Rattle.blocks.proofs.WordLaws.{words-list_to, two-words-back, low-word-fits, high-word-fits, low-word-back, high-word-back, two-words-fit}
 use Rattle.blocks.proofs.BlockLaws.{payload_word-small}
 use Rattle.blocks.proofs.FileLaws.{length-file_bytes, file_bytes-bytes, file_bytes-ext, each-block, file-word, file_fits, file-own}
-use Rattle.block_tables.proofs.TableLaws.{length-table_words, table_words-small, table_words-ext, table-back, table-own, list-fits}
+use Rattle.block_tables.proofs.TableLaws.{length-table_words, table_words-small, table_words-ext, table-back, table-own, list_fits}
 use Rattle.qlt_spec.specs.declared.Repair.{Repair}
 use Rattle.files_spec.specs.AnswerFile.{answer_blocks, head_used, answer_head, mass_block, answer_words, answer_bytes, answer_used, mass_word, AnswerTyped}
-use Rattle.files_spec.specs.WriteAnswer.{WriteCall, write_call, write_verdict, WriteFits, write_tells, WriteContract}
-use Rattle.files_spec.specs.ReadAnswer.{answer_cells, answer_repair, answer_masses, answer_read_verdict, AnswerReadFits, answer_of, answer_read_tells, AnswerReadContract}
+use Rattle.files_spec.specs.WriteAnswer.{WriteCall, write_call, write_verdict, WriteFits, WriteContract}
+use Rattle.files_spec.specs.ReadAnswer.{answer_cells, answer_repair, answer_masses, answer_read_verdict, AnswerReadFits, answer_of, AnswerReadContract}
 use Rattle.files_spec.specs.Trip.{AnswerReading, AnswerWriting, AnswerTrip}
-use Rattle.files_spec.specs.declared.AnswerRead.{AnswerRead}
-use Rattle.files_spec.specs.declared.AnswerRead.TheVariants as answer-read
-use Rattle.files_spec.specs.declared.AnswerWritten.{AnswerWritten}
-use Rattle.files_spec.specs.declared.AnswerWritten.TheVariants as answer-written
-use Rattle.files_spec.proofs.WriteLaws.{write-accepts, write-tells-injective, sum-part, mass_words}
+use Rattle.files_spec.proofs.WriteLaws.{write-accepts, sum-part, mass_words}
 use Rattle.files_spec.proofs.BackLaws.{list_back}
-use Rattle.files_spec.proofs.ReadAnswerLaws.{answer-used-small, used-masses, length-masses, answer-read-accepts, answer-read-tells-injective, answer-read-done}
+use Rattle.files_spec.proofs.ReadAnswerLaws.{answer-used-small, used-masses, length-masses, answer-read-accepts, answer-read-done}
 
 -- ---- what is written is read back
 
@@ -60,7 +57,7 @@ module _ (n : ℕ) (r : Repair) (masses : List ℕ) (t : AnswerTyped r masses) (
     where
       go : (p : Bool) → length (cond p (answer_head n r) (mass_block n masses (b - 2))) ≡ cond p head_used (table_used list_table n (b - 2))
       go true = refl
-      go false = length-table_words list_table list-fits n (λ i j. at masses i) (b - 2)
+      go false = length-table_words list_table list_fits n (λ i j. at masses i) (b - 2)
 
   head_small : Words (answer_head n r)
   head_small zero = omega arith
@@ -79,7 +76,7 @@ module _ (n : ℕ) (r : Repair) (masses : List ℕ) (t : AnswerTyped r masses) (
     where
       go : (p : Bool) → Words (cond p (answer_head n r) (mass_block n masses (b - 2)))
       go true = head_small
-      go false = table_words-small list_table list-fits n (λ i j. at masses i) (λ i j l h. t.mass_words i) (b - 2)
+      go false = table_words-small list_table list_fits n (λ i j. at masses i) (λ i j l h. t.mass_words i) (b - 2)
 
   is-file : IsFile file (answer_used n) k
   unfolding answer_bytes
@@ -119,7 +116,7 @@ module _ (n : ℕ) (r : Repair) (masses : List ℕ) (t : AnswerTyped r masses) (
   module _ (long : n ≤ length masses) where
     mass-back : (i : ℕ) → i < n → mass_word file i ≡ at masses i
     unfolding answer_bytes
-    mass-back i l = table-back list_table list-fits n (λ i j. at masses i) ws k 2 i 0 (λ q h. mass_words n r masses q) (λ i j l h. t.mass_words i) (omega arith) (omega arith) few-blocks l (omega arith)
+    mass-back i l = table-back list_table list_fits n (λ i j. at masses i) ws k 2 i 0 (λ q h. mass_words n r masses q) (λ i j l h. t.mass_words i) (omega arith) (omega arith) few-blocks l (omega arith)
 
     pub masses-back : answer_masses file ≡ take n masses
     unfolding answer_masses
@@ -190,8 +187,8 @@ module _ (file : List ℕ) (room : ℕ) (y : Bytes file) (f : AnswerReadFits fil
   masses-own : (q : ℕ) → answer_words N (answer_repair file) (answer_masses file) (2 + q) ≡ list_to (table_used list_table N q) (payload_word file (2 + q))
   masses-own q =
       mass_words N (answer_repair file) (answer_masses file) q
-      ∙ table_words-ext list_table list-fits N (λ i j. at (answer_masses file) i) (λ i j. table_word list_table file 2 j i) q mass-word
-      ∙ table-own list_table list-fits file 2 N q
+      ∙ table_words-ext list_table list_fits N (λ i j. at (answer_masses file) i) (λ i j. table_word list_table file 2 j i) q mass-word
+      ∙ table-own list_table list_fits file 2 N q
 
   words-own : (b : ℕ) → 0 < b → b ≤ answer_blocks N → answer_words N (answer_repair file) (answer_masses file) b ≡ list_to (answer_used N b) (payload_word file b)
   words-own = each-block (λ b. Own b (answer_used N b)) (answer_blocks N) (unfold answer_used in head-own) later
@@ -238,25 +235,23 @@ answer_bytes-front n r ms vs e =
     same i j l h = sym (get_or-take n ms i 0 l) ∙ ap (λ x. at x i) e
 
     words : (b : ℕ) → answer_words n r ms b ≡ answer_words n r vs b
-    words b = unfold answer_words in ap (cond (leb b 1) (answer_head n r)) (table_words-ext list_table list-fits n (λ i j. at ms i) (λ i j. at vs i) (b - 2) same)
+    words b = unfold answer_words in ap (cond (leb b 1) (answer_head n r)) (table_words-ext list_table list_fits n (λ i j. at ms i) (λ i j. at vs i) (b - 2) same)
 
 -- ---- the writer, from its contract alone
 
-module _ {c : WriteCall} {answer : AnswerWritten} {buffer : List ℕ} (p : WriteContract c answer buffer) where
+module _ {c : WriteCall} {answer : Answered ℕ} {buffer : List ℕ} (p : WriteContract c answer buffer) where
   -- a call that fits tells the length and writes the file
-  pub write_done : WriteFits c → (answer ≡ answer-written.Bytes (512 * answer_blocks c.cells)) × (buffer ≡ written c.buffer 0 (answer_bytes c.cells c.repair c.masses))
-  unfolding write_tells
+  pub write_done : WriteFits c → (answer ≡ Ok (512 * answer_blocks c.cells)) × (buffer ≡ written c.buffer 0 (answer_bytes c.cells c.repair c.masses))
   write_done w =
       let v = (write-accepts c).1 w in (
-        write-tells-injective _ _ (p.answers ∙ ap (λ x. answered x (512 * answer_blocks c.cells)) v),
+        p.answers ∙ ap (λ x. answered x (512 * answer_blocks c.cells)) v,
         p.writes ∙ ap (λ x. after x (written c.buffer 0 (answer_bytes c.cells c.repair c.masses)) c.buffer) v,
       )
 
   -- a call that told a length fits
-  pub write-fitted : {l : ℕ} → answer ≡ answer-written.Bytes l → WriteFits c × (l ≡ 512 * answer_blocks c.cells)
-  unfolding write_tells
+  pub write-fitted : {l : ℕ} → answer ≡ Ok l → WriteFits c × (l ≡ 512 * answer_blocks c.cells)
   write-fitted {l} e =
-      let d = answered-accepted (write_verdict c) l (512 * answer_blocks c.cells) (ap write_tells (sym e) ∙ p.answers) in
+      let d = answered-accepted (write_verdict c) l (512 * answer_blocks c.cells) (sym e ∙ p.answers) in
       ((write-accepts c).0 d.0, d.1)
 
 -- ---- bytes that the writer left
@@ -286,18 +281,17 @@ module _ (file : List ℕ) (w : AnswerWriting file) where
   left-bytes : Bytes file
   left-bytes = subst Bytes (sym left) (unfold answer_bytes in file_bytes-bytes (answer_words c.cells c.repair c.masses) (answer_blocks c.cells))
 
-  left-passes : (room : ℕ) → c.cells ≤ room → answer_read_verdict file room ≡ Pass
+  left-passes : (room : ℕ) → c.cells ≤ room → answer_read_verdict file room ≡ Ok tt
   left-passes room h =
       ap (λ x. answer_read_verdict x room) left
       ∙ (answer-read-accepts (answer_bytes c.cells c.repair c.masses) room).1
       (answer-fits c.cells c.repair c.masses w.promised.typed fitted.few fitted.masses room h fitted.some fitted.outcome fitted.adds_up)
 
-  left-read : (masses : List ℕ) (answer : AnswerRead) (masses' : List ℕ) → c.cells ≤ length masses → AnswerReadContract file masses answer masses'
-      → (answer ≡ answer-read.Read c.cells c.repair) × (masses' ≡ written masses 0 (take c.cells c.masses))
-  unfolding answer_read_tells
+  left-read : (masses : List ℕ) (answer : Answered Repaired) (masses' : List ℕ) → c.cells ≤ length masses → AnswerReadContract file masses answer masses'
+      → (answer ≡ Ok (record { cells = c.cells; repair = c.repair })) × (masses' ≡ written masses 0 (take c.cells c.masses))
   left-read masses answer masses' h p =
       let v = left-passes (length masses) h in (
-        answer-read-tells-injective _ _ (p.answers ∙ ap (λ x. answered x (answer_of file)) v ∙ rw (left-cells, left-repair)),
+        p.answers ∙ ap (λ x. answered x (answer_of file)) v ∙ rw (left-cells, left-repair),
         p.writes ∙ ap (λ x. after x (written masses 0 (answer_masses file)) masses) v ∙ ap (written masses 0) left-masses,
       )
 
@@ -333,9 +327,9 @@ module _ (file masses : List ℕ) where
     length-held : length (answer_masses file) ≡ n₀
     length-held = length-masses file
 
-    again : (buffer : List ℕ) (answer : AnswerWritten) (buffer' : List ℕ) → length file ≤ length buffer
+    again : (buffer : List ℕ) (answer : Answered ℕ) (buffer' : List ℕ) → length file ≤ length buffer
         → WriteContract (write_call r.cells r.repair r.masses' buffer) answer buffer'
-        → (answer ≡ answer-written.Bytes (length file)) × (buffer' ≡ written buffer 0 file)
+        → (answer ≡ Ok (length file)) × (buffer' ≡ written buffer 0 file)
     again buffer answer buffer' h p =
         let f = read_fits.head in
         let ms : List ℕ = written masses 0 (answer_masses file) in
@@ -343,13 +337,12 @@ module _ (file masses : List ℕ) where
         let l : n₀ ≤ length ms = omega (arith, length-kept masses 0 (answer_masses file) (omega (arith, length-held, f.room_for)), f.room_for) in
         let e : take n₀ ms ≡ answer_masses file = front-written masses (answer_masses file) n₀ length-held in
         let d = write_done q (fits-again ms buffer l e h) in (
-          d.0 ∙ ap answer-written.Bytes (sym f.whole),
+          d.0 ∙ ap Ok (sym f.whole),
           d.1 ∙ ap (written buffer 0) (answer_bytes-front n₀ (answer_repair file) ms (answer_masses file) e ∙ sym file-same),
         )
 
     -- the call with what the file holds, into the file itself
     writing : AnswerWriting file
-    unfolding write_tells
     writing =
         let f = read_fits.head in
         let ms : List ℕ = answer_masses file in
@@ -360,14 +353,13 @@ module _ (file masses : List ℕ) where
           promised =
               record {
                 typed = read-typed file (length masses) r.promised.bytes read_fits;
-                answers = ap accepted f.whole ∙ sym (ap (λ x. answered x (512 * answer_blocks n₀)) v);
+                answers = ap Ok f.whole ∙ sym (ap (λ x. answered x (512 * answer_blocks n₀)) v);
                 writes = sym (ap (λ x. after x (written file 0 (answer_bytes n₀ (answer_repair file) ms)) file) v ∙ ap (written file 0) (sym file-same) ∙ written-own file);
               };
           front = take_all (length file) file (omega arith);
         }
 
   reading : (w : AnswerWriting file) → answer_cells file ≤ length masses → AnswerReading file masses
-  unfolding answer_read_tells
   reading w room =
       let v = left-passes file w (length masses) (omega (arith, left-cells file w)) in
       record {

@@ -1,4 +1,5 @@
 -- A field that is written to a file is read back from it: every value, the sizes and the total. Assumes nothing.
+use Rattle.std.specs.Prelude.{Ok}
 use mathlib.Core.Path.{◌≡◌, refl, sym, ◌∙◌, ap, ap₂, subst}
 use mathlib.Core.Bool.{Bool, true, false, cond}
 use mathlib.Core.List.{List, [], ◌∷◌}
@@ -9,7 +10,6 @@ use lib.Dec.{leb}
 use lib.IntN.{pos}
 use lib.ListN.{length, get_or}
 use lib.Seq.{ext_get_or}
-use Rattle.numbers.specs.declared.Checked.TheVariants.{Pass}
 use Rattle.numbers.specs.Lists.{at, at_ℤ, list_to}
 use Rattle.numbers.proofs.ListLaws.{length-list_to, get_d-list_to}
 use Rattle.blocks.specs.Words.{Words, word_signed}
@@ -18,12 +18,12 @@ use Rattle.block_tables.specs.Tables.{table_used, list_table}
 use Rattle.blocks.proofs.WordLaws.{signed_back}
 use Rattle.blocks.proofs.BlockLaws.{block-fits}
 use Rattle.blocks.proofs.FileLaws.{length-file_bytes, file-word, file-passes}
-use Rattle.block_tables.proofs.TableLaws.{length-table_words, table_words-small, table-back, list-fits}
+use Rattle.block_tables.proofs.TableLaws.{length-table_words, table_words-small, table-back, list_fits}
 use Rattle.qlt_spec.specs.Field.{Lists, cells, nodes}
 use Rattle.files_spec.specs.FieldFile.{cell_table, cell_blocks, field_blocks, cell_words, cell_block, parent_block, field_words, field_bytes, field_used, cell_word, parent_word}
 use Rattle.files_spec.specs.ReadField.{file_cells, file_nodes, file_total, Room, HeadFits, sizes_of, file_lists}
 use Rattle.files_spec.specs.Stored.{Storable, FieldBack}
-use Rattle.files_spec.proofs.ReadLaws.{cell-fits, used-small, read-accepts}
+use Rattle.files_spec.proofs.ReadLaws.{cell_fits, used-small, read-accepts}
 
 -- ---- lists by index
 
@@ -60,8 +60,8 @@ module _ (f : Lists) (M : ℕ) where
     where
       go : (p q : Bool) → length (cond p (512 ∷ n ∷ m ∷ M ∷ []) (cond q (cell_block f (b - 2)) (parent_block f (b - (2 + cell_blocks n))))) ≡ cond p 4 (cond q (table_used cell_table n (b - 2)) (table_used list_table m (b - (2 + cell_blocks n))))
       go true q = refl
-      go false true = length-table_words cell_table cell-fits n (λ i j. at (cell_words f i) j) (b - 2)
-      go false false = length-table_words list_table list-fits m (λ i j. at f.parents i) (b - (2 + cell_blocks n))
+      go false true = length-table_words cell_table cell_fits n (λ i j. at (cell_words f i) j) (b - 2)
+      go false false = length-table_words list_table list_fits m (λ i j. at f.parents i) (b - (2 + cell_blocks n))
 
   module _ (g : Storable f M) where
     cell-small : (i : ℕ) → i < n → Words (cell_words f i)
@@ -86,8 +86,8 @@ module _ (f : Lists) (M : ℕ) where
       where
         go : (p q : Bool) → Words (cond p (512 ∷ n ∷ m ∷ M ∷ []) (cond q (cell_block f (b - 2)) (parent_block f (b - (2 + cell_blocks n)))))
         go true q = head_small
-        go false true = table_words-small cell_table cell-fits n (λ i j. at (cell_words f i) j) (λ i j l h. cell-small i l j) (b - 2)
-        go false false = table_words-small list_table list-fits m (λ i j. at f.parents i) (λ i j l h. g.typed.parent_words i) (b - (2 + cell_blocks n))
+        go false true = table_words-small cell_table cell_fits n (λ i j. at (cell_words f i) j) (λ i j l h. cell-small i l j) (b - 2)
+        go false false = table_words-small list_table list_fits m (λ i j. at f.parents i) (λ i j l h. g.typed.parent_words i) (b - (2 + cell_blocks n))
 
     -- ---- what is read
 
@@ -124,12 +124,12 @@ module _ (f : Lists) (M : ℕ) where
     cell-back : (k i : ℕ) → k < 6 → i < n → cell_word file k i ≡ at (cell_words f i) k
     unfolding field_bytes
     cell-back k i h l =
-        table-back cell_table cell-fits n (λ i j. at (cell_words f i) j) (field_words f M) blocks 2 i k cells_at (λ i j l h. cell-small i l j) (omega arith) (omega arith) (omega (arith, few-blocks)) l h
+        table-back cell_table cell_fits n (λ i j. at (cell_words f i) j) (field_words f M) blocks 2 i k cells_at (λ i j l h. cell-small i l j) (omega arith) (omega arith) (omega (arith, few-blocks)) l h
 
     parent-back : (i : ℕ) → i < m → parent_word file n i ≡ at f.parents i
     unfolding field_bytes
     parent-back i l =
-        table-back list_table list-fits m (λ i j. at f.parents i) (field_words f M) blocks (2 + cell_blocks n) i 0 (λ k h. parents-at k) (λ i j l h. g.typed.parent_words i) (omega arith) (omega arith) (omega (arith, few-blocks)) l (omega arith)
+        table-back list_table list_fits m (λ i j. at f.parents i) (field_words f M) blocks (2 + cell_blocks n) i 0 (λ k h. parents-at k) (λ i j l h. g.typed.parent_words i) (omega arith) (omega arith) (omega (arith, few-blocks)) l (omega arith)
 
     -- each list
     column : (k : ℕ) (l : List ℕ) → k < 6 → length l ≡ n → ((i : ℕ) → at (cell_words f i) k ≡ at l i) → list_to (file_cells file) (cell_word file k) ≡ l
@@ -147,7 +147,7 @@ module _ (f : Lists) (M : ℕ) where
       used-back : (b : ℕ) → length (field_words f M b) ≡ field_used (file_cells file) (file_nodes file) b
       used-back b = count b ∙ sym (ap₂ (λ x y. field_used x y b) cells-back nodes-back)
 
-      passes : (b : ℕ) → 0 < b → b ≤ blocks → check_block file (field_used (file_cells file) (file_nodes file)) b ≡ Pass
+      passes : (b : ℕ) → 0 < b → b ≤ blocks → check_block file (field_used (file_cells file) (file_nodes file)) b ≡ Ok tt
       unfolding field_bytes
       passes b z l = file-passes (field_words f M) (field_used (file_cells file) (file_nodes file)) blocks b z l (omega (arith, few-blocks)) (used-small (file_cells file) (file_nodes file) b) (used-back b) (small b)
 

@@ -1,6 +1,8 @@
 -- Field files both ways: a file that is read is the bytes of the field that it holds, and a file that is written is read back. Assumes
 -- nothing.
+use Rattle.std.specs.Prelude.{Ok}
 use mathlib.Core.Path.{◌≡◌, refl, sym, ◌∙◌, ap, ap₂, subst}
+use Rattle.files_spec.specs.declared.Sizes.{Sizes}
 use mathlib.Core.List.{List}
 use Prim.Native.Nat.{ℕ, zero, suc, ◌+◌, ◌*◌, ◌-◌, ◌^◌, ◌≤◌, ◌<◌}
 use native.Mathlib.Omega.{arith}
@@ -9,9 +11,8 @@ use lib.IntN.{ℤ, pos, negsuc}
 use lib.Signed.{◌≤ℤ◌}
 use lib.ListN.{length, take, get_or-eq_default}
 use lib.Seq.{take_all}
-use Rattle.numbers.specs.declared.Checked.TheVariants.{Pass}
 use Rattle.numbers.specs.Lists.{at, at_ℤ, list_to, written}
-use Rattle.numbers.specs.Checks.{accepted, answered, after}
+use Rattle.numbers.specs.Checks.{Answered, answered, after}
 use Rattle.numbers.proofs.CheckLaws.{answered-accepted}
 use Rattle.numbers.proofs.ListLaws.{length-list_to, get_d-list_to}
 use Rattle.numbers.proofs.PartLaws.{front-written, written-own}
@@ -21,21 +22,17 @@ use Rattle.block_tables.specs.Tables.{table_used, table_words, table_word, list_
 use Rattle.blocks.proofs.WordLaws.{word-signed-back, word-signed-fits, words-list_to}
 use Rattle.blocks.proofs.BlockLaws.{payload_word-small}
 use Rattle.blocks.proofs.FileLaws.{length-file_bytes, file_bytes-bytes, each-block, file_fits, file-own}
-use Rattle.block_tables.proofs.TableLaws.{table_words-ext, table-own, list-fits}
-use Rattle.qlt_spec.specs.Field.{Lists, lists, cells, nodes}
+use Rattle.block_tables.proofs.TableLaws.{table_words-ext, table-own, list_fits}
+use Rattle.qlt_spec.specs.Field.{Lists, cells, nodes}
 use Rattle.files_spec.specs.FieldFile.{cell_table, cell_blocks, field_blocks, cell_words, field_words, field_bytes, field_used, cell_word, parent_word, fronts, over_fronts, FieldTyped}
-use Rattle.files_spec.specs.ReadField.{file_cells, file_nodes, file_total, read_verdict, Room, ReadFits, sizes_of, read_tells, file_lists, ReadContract}
-use Rattle.files_spec.specs.WriteField.{FieldWriteCall, field_write_call, field_write_verdict, FieldWriteFits, field_write_tells, field_of, FieldWriteContract}
+use Rattle.files_spec.specs.ReadField.{file_cells, file_nodes, file_total, read_verdict, Room, ReadFits, sizes_of, file_lists, ReadContract}
+use Rattle.files_spec.specs.WriteField.{FieldWriteCall, field_write_call, field_write_verdict, FieldWriteFits, field_of, FieldWriteContract}
 use Rattle.files_spec.specs.Stored.{Storable, FieldBack}
 use Rattle.files_spec.specs.Trip.{FieldReading, FieldWriting, FieldTrip}
-use Rattle.files_spec.specs.declared.FieldRead.{FieldRead}
-use Rattle.files_spec.specs.declared.FieldRead.TheVariants as field-read
-use Rattle.files_spec.specs.declared.FieldWritten.{FieldWritten}
-use Rattle.files_spec.specs.declared.FieldWritten.TheVariants as field-written
-use Rattle.files_spec.proofs.ReadLaws.{cell-fits, used-small, used-cells, used-parents, read_done, read-tells-injective}
+use Rattle.files_spec.proofs.ReadLaws.{cell_fits, used-small, used-cells, used-parents, read_done}
 use Rattle.files_spec.proofs.BackLaws.{cells_at, parents-at, cells-back, nodes-back, total-back, field_back}
 use Rattle.files_spec.proofs.FrontLaws.{Sized, held-sized, fronts-sized, over-room, own_room, fronts-over, fronts-own}
-use Rattle.files_spec.proofs.WriteFieldLaws.{field-write-accepts, field-write-tells-injective}
+use Rattle.files_spec.proofs.WriteFieldLaws.{field-write-accepts}
 
 -- ---- the field that a file holds
 
@@ -122,8 +119,8 @@ module _ (file : List ℕ) where
           let v : ℕ → ℕ → ℕ = λ i j. at (cell_words f i) j in
           cells_at f (file_total file) k (rw held-cells l)
           ∙ ap (λ x. table_words cell_table x v k) held-cells
-          ∙ table_words-ext cell_table cell-fits n v (λ i j. cell_word file j i) k held-cell
-          ∙ table-own cell_table cell-fits file 2 n k
+          ∙ table_words-ext cell_table cell_fits n v (λ i j. cell_word file j i) k held-cell
+          ∙ table-own cell_table cell_fits file 2 n k
 
       parents-own : (k : ℕ) → ws (2 + cell_blocks n + k) ≡ list_to (table_used list_table m k) (payload_word file (2 + cell_blocks n + k))
       parents-own k =
@@ -131,8 +128,8 @@ module _ (file : List ℕ) where
           ap (λ x. ws (2 + cell_blocks x + k)) (sym held-cells)
           ∙ parents-at f (file_total file) k
           ∙ ap (λ x. table_words list_table x v k) held-nodes
-          ∙ table_words-ext list_table list-fits m v (λ i j. table_word list_table file (2 + cell_blocks n) j i) k parent-word
-          ∙ table-own list_table list-fits file (2 + cell_blocks n) m k
+          ∙ table_words-ext list_table list_fits m v (λ i j. table_word list_table file (2 + cell_blocks n) j i) k parent-word
+          ∙ table-own list_table list_fits file (2 + cell_blocks n) m k
         where
           parent-word : (i j : ℕ) → i < m → j < 1 → at f.parents i ≡ table_word list_table file (2 + cell_blocks n) j i
           parent-word i zero l h = held-parent i l
@@ -197,21 +194,19 @@ length-field_bytes : (f : Lists) (M : ℕ) → length (field_bytes f M) ≡ 512 
 unfolding field_bytes
 length-field_bytes f M = length-file_bytes (field_words f M) (field_blocks (cells f) (nodes f))
 
-module _ {c : FieldWriteCall} {answer : FieldWritten} {buffer : List ℕ} (p : FieldWriteContract c answer buffer) where
+module _ {c : FieldWriteCall} {answer : Answered ℕ} {buffer : List ℕ} (p : FieldWriteContract c answer buffer) where
   -- a call that fits tells the length and writes the file
-  pub write_done : FieldWriteFits c → (answer ≡ field-written.Bytes (512 * field_blocks c.cells c.nodes)) × (buffer ≡ written c.buffer 0 (field_bytes (field_of c) c.total))
-  unfolding field_write_tells
+  pub write_done : FieldWriteFits c → (answer ≡ Ok (512 * field_blocks c.cells c.nodes)) × (buffer ≡ written c.buffer 0 (field_bytes (field_of c) c.total))
   write_done w =
       let v = (field-write-accepts c).1 w in (
-        field-write-tells-injective _ _ (p.answers ∙ ap (λ x. answered x (512 * field_blocks c.cells c.nodes)) v),
+        p.answers ∙ ap (λ x. answered x (512 * field_blocks c.cells c.nodes)) v,
         p.writes ∙ ap (λ x. after x (written c.buffer 0 (field_bytes (field_of c) c.total)) c.buffer) v,
       )
 
   -- a call that told a length fits
-  pub write-fitted : {l : ℕ} → answer ≡ field-written.Bytes l → FieldWriteFits c × (l ≡ 512 * field_blocks c.cells c.nodes)
-  unfolding field_write_tells
+  pub write-fitted : {l : ℕ} → answer ≡ Ok l → FieldWriteFits c × (l ≡ 512 * field_blocks c.cells c.nodes)
   write-fitted {l} e =
-      let d = answered-accepted (field_write_verdict c) l (512 * field_blocks c.cells c.nodes) (ap field_write_tells (sym e) ∙ p.answers) in
+      let d = answered-accepted (field_write_verdict c) l (512 * field_blocks c.cells c.nodes) (sym e ∙ p.answers) in
       ((field-write-accepts c).0 d.0, d.1)
 
 -- the field of a call that fits is one that a file can hold
@@ -256,7 +251,7 @@ module _ (file : List ℕ) (w : FieldWriting file) where
     back : FieldBack g c.total s
     back = field_back g c.total storable s (rw (sized.targets, sized.parents) r)
 
-    left-passes : read_verdict file s ≡ Pass
+    left-passes : read_verdict file s ≡ Ok tt
     left-passes = ap (λ x. read_verdict x s) left ∙ back.passes
 
     left-held : file_lists file ≡ g
@@ -265,10 +260,9 @@ module _ (file : List ℕ) (w : FieldWriting file) where
     left-sizes : sizes_of file ≡ record { cells = c.cells; nodes = c.nodes; total = c.total }
     left-sizes = rw (left-cells, left-nodes, left-total)
 
-    left-read : (answer : FieldRead) (t : Lists) → ReadContract file s answer t → (answer ≡ field-read.Read c.cells c.nodes c.total) × (t ≡ over_fronts s g)
-    unfolding read_tells
+    left-read : (answer : Answered Sizes) (t : Lists) → ReadContract file s answer t → (answer ≡ Ok (record { cells = c.cells; nodes = c.nodes; total = c.total })) × (t ≡ over_fronts s g)
     left-read answer t p = (
-      read-tells-injective _ _ (p.answers ∙ ap₂ answered left-passes left-sizes),
+      p.answers ∙ ap₂ answered left-passes left-sizes,
       p.writes ∙ ap (λ x. after x (over_fronts s (file_lists file)) s) left-passes ∙ ap (over_fronts s) left-held,
     )
 
@@ -298,22 +292,21 @@ module _ (file : List ℕ) (s : Lists) where
         let f = read_fits.head in
         record { some = f.some; few = f.few; nodes_room = f.nodes_room; nodes_few = f.nodes_few; room = room; space = omega (arith, f.whole) }
 
-    again : (buffer : List ℕ) (answer : FieldWritten) (buffer' : List ℕ) → length file ≤ length buffer
+    again : (buffer : List ℕ) (answer : Answered ℕ) (buffer' : List ℕ) → length file ≤ length buffer
         → FieldWriteContract (field_write_call r.cells r.nodes r.total r.lists buffer) answer buffer'
-        → (answer ≡ field-written.Bytes (length file)) × (buffer' ≡ written buffer 0 file)
+        → (answer ≡ Ok (length file)) × (buffer' ≡ written buffer 0 file)
     again buffer answer buffer' h p =
         let f = read_fits.head in
         let t : Lists = over_fronts s held in
         let call : FieldWriteCall = field_write_call (file_cells file) (file_nodes file) (file_total file) t buffer in
         let q : FieldWriteContract call answer buffer' = subst (λ x. FieldWriteContract x answer buffer') (rw (told.0, told.1.0, told.1.1.0, told.1.1.1)) p in
         let d = write_done q (fits-again t buffer (over-room (file_cells file) (file_nodes file) s f.room held (held-sized file)) h) in (
-          d.0 ∙ ap field-written.Bytes (sym f.whole),
+          d.0 ∙ ap Ok (sym f.whole),
           d.1 ∙ ap (λ x. written buffer 0 (field_bytes x (file_total file))) (fronts-over (file_cells file) (file_nodes file) s held (held-sized file)) ∙ ap (written buffer 0) (sym file-same),
         )
 
     -- the call with that very field, into the file itself
     writing : FieldWriting file
-    unfolding field_write_tells
     writing =
         let f = read_fits.head in
         let v = (field-write-accepts _).1 (fits-again held file (own_room (file_cells file) (file_nodes file) held (held-sized file)) (omega arith)) in
@@ -325,14 +318,13 @@ module _ (file : List ℕ) (s : Lists) where
           promised =
               record {
                 typed = λ e. subst (λ x. FieldTyped x (file_total file)) (sym (fronts-own (file_cells file) (file_nodes file) held (held-sized file))) (held-typed file r.promised.bytes);
-                answers = ap accepted f.whole ∙ sym (ap (λ x. answered x (512 * field_blocks (file_cells file) (file_nodes file))) v);
+                answers = ap Ok f.whole ∙ sym (ap (λ x. answered x (512 * field_blocks (file_cells file) (file_nodes file))) v);
                 writes = sym (ap (λ x. after x (written file 0 (field_bytes (fronts (file_cells file) (file_nodes file) held) (file_total file))) file) v ∙ ap (written file 0) o ∙ written-own file);
               };
           front = take_all (length file) file (omega arith);
         }
 
   reading : (w : FieldWriting file) → Room (file_cells file) (file_nodes file) s → FieldReading file s
-  unfolding read_tells
   reading w room =
       let here : Room w.call.cells w.call.nodes s = subst (λ k. Room w.call.cells k s) (left-nodes file w) (subst (λ k. Room k (file_nodes file) s) (left-cells file w) room) in
       let v = left-passes file w s here in

@@ -113,27 +113,27 @@ fronts-own n m f z =
 
 -- ---- values at the front fit their types
 
-words_take : (n : ℕ) (l : List ℕ) → Words l → Words (take n l)
+words_take : (n : ℕ) (l : List ℕ) → ((i : ℕ) → i < n → at l i < 2 ^ 32) → Words (take n l)
 words_take n l h i = go (dec_lt i n)
   where
     go : Dec (i < n) → at (take n l) i < 2 ^ 32
-    go (yes m) = rw (get_or-take n l i 0 m) (h i)
+    go (yes m) = rw (get_or-take n l i 0 m) (h i m)
     go (no m) = rw (get_or-eq_default (take n l) 0 {n = i} (omega (arith, length-take n l))) (omega arith)
 
 -- signed numbers of 32 bits
 signed_range : (z : ℤ) → mag z < 2 ^ 31 → (negsuc 2147483647 ≤ℤ z) × (z ≤ℤ pos 2147483647)
 signed_range z h = (parts-le {a = negsuc 2147483647} {b = z} (omega (arith, about z)), parts-le {a = z} {b = pos 2147483647} (omega (arith, about z)))
 
--- of the targets only the first n need fit
+-- only these need fit
 pub fronts-typed :
     (n m : ℕ) (s : Lists) (M : ℕ)
     → ((i : ℕ) → i < n → mag (at_ℤ s.targets i) < 2 ^ 31)
-    → Words s.lows
-    → Words s.highs
-    → Words s.safe_lows
-    → Words s.safe_highs
-    → Words s.weights
-    → Words s.parents
+    → ((i : ℕ) → i < n → at s.lows i < 2 ^ 32)
+    → ((i : ℕ) → i < n → at s.highs i < 2 ^ 32)
+    → ((i : ℕ) → i < n → at s.safe_lows i < 2 ^ 32)
+    → ((i : ℕ) → i < n → at s.safe_highs i < 2 ^ 32)
+    → ((i : ℕ) → i < n → at s.weights i < 2 ^ 32)
+    → ((i : ℕ) → i < m → at s.parents i < 2 ^ 32)
     → M < 2 ^ 32
     → FieldTyped (fronts n m s) M
 fronts-typed n m s M targets lows highs safe_lows safe_highs weights parents total =

@@ -1,6 +1,8 @@
--- What the verdict on an answer file means, that an answer tells its verdict and its values and nothing else, and what the contract alone says
--- of a call. Assumes nothing.
+-- What the verdict on an answer file means, and what the contract alone says of a call. Assumes
+-- nothing.
+use Rattle.std.specs.Prelude.{Ok}
 use mathlib.Core.Path.{◌≡◌, refl, sym, ◌∙◌, ap, subst}
+use Rattle.files_spec.specs.declared.Repaired.{Repaired}
 use mathlib.Core.Logic.{◌↔◌}
 use mathlib.Core.Bool.{Bool, true, false, cond}
 use mathlib.Core.List.{List, [], ◌∷◌, ◌++◌}
@@ -10,25 +12,21 @@ use native.Mathlib.Decide.{ℕ_discrete}
 use borrow.Author.Tests.{lt-leb}
 use lib.Dec.{leb}
 use lib.ListN.{length}
-use Rattle.numbers.specs.declared.Checked.TheVariants.{Pass, Fail}
 use Rattle.numbers.specs.Sums.{ℕ_adds, sum_to}
 use Rattle.numbers.specs.Lists.{at, list_to, written, sum}
-use Rattle.numbers.specs.Checks.{after, both, each_from, Decides, rule, Holds, Broken, DecidesAll, RefuseWith}
-use Rattle.numbers.proofs.TestLaws.{injective}
+use Rattle.numbers.specs.Checks.{refused, after, both, each_from, Decides, rule, Holds, Broken, DecidesAll, RefuseWith}
 use Rattle.numbers.proofs.SumLaws.{sum_to-ext}
 use Rattle.numbers.proofs.ListLaws.{length-list_to, get_d-list_to}
 use Rattle.numbers.proofs.CheckLaws.{both_first, both-second, both-assoc, both-pass, each-ext, answered-accepted, answered-refused, decides-then, decides-none, alone, decides-append, decides-each, count-decides, long-decides}
 use Rattle.numbers.proofs.ChainLaws.{refuse-with, refuse-each, refuse-append}
 use Rattle.blocks.specs.Blocks.{block_of, payload_word, check_block, SoundBlock, SpareZero, block_rules}
-use Rattle.block_tables.specs.Tables.{table_used, HasTable, check_table, list_table}
+use Rattle.block_tables.specs.Tables.{table_used, check_table, list_table}
 use Rattle.blocks.proofs.BlockLaws.{sound-decides, spare-decides, block-decides}
 use Rattle.blocks.proofs.FileLaws.{length-decides, blocks-decides, mark-decides, later-fits}
-use Rattle.block_tables.proofs.TableLaws.{table_used-small, used-same, list-fits}
+use Rattle.block_tables.proofs.TableLaws.{table_used-small, used-same, list_fits}
 use Rattle.qlt_spec.specs.declared.Repair.{Repair}
-use Rattle.files_spec.specs.declared.AnswerRead.{AnswerRead}
-use Rattle.files_spec.specs.declared.AnswerRead.TheVariants.{Read, Refused}
-use Rattle.files_spec.specs.AnswerFile.{Repaired, mass_blocks, answer_blocks, head_used, answer_used, mass_word}
-use Rattle.files_spec.specs.ReadAnswer.{answer_cells, answer_repair, answer_masses, max_answer_file, answer_head_verdict, answer_later_verdict, answer_sum_verdict, answer_read_verdict, answer_head_rules, answer_later_rules, answer_read_rules, AnswerHeadFits, AnswerMeasured, AnswerReadFits, answer_of, answer_read_tells, answer_read_of, AnswerReadContract}
+use Rattle.files_spec.specs.AnswerFile.{mass_blocks, answer_blocks, head_used, answer_used, mass_word}
+use Rattle.files_spec.specs.ReadAnswer.{answer_cells, answer_repair, answer_masses, max_answer_file, answer_head_verdict, answer_later_verdict, answer_sum_verdict, answer_read_verdict, answer_head_rules, answer_later_rules, answer_read_rules, AnswerHeadFits, AnswerMeasured, AnswerReadFits, answer_of, AnswerReadContract}
 use Rattle.files_spec.proofs.WriteLaws.{outcome-decides, masses-decides}
 
 -- ---- the blocks
@@ -40,16 +38,12 @@ answer-used-small n b = go (leb b 1)
   where
     go : (p : Bool) → cond p head_used (table_used list_table n (b - 2)) ≤ 125
     go true = omega arith
-    go false = table_used-small list_table list-fits n (b - 2)
+    go false = table_used-small list_table list_fits n (b - 2)
 
 -- a later block uses what the table of masses says
 pub used-masses : (n b : ℕ) → 2 ≤ b → answer_used n b ≡ table_used list_table n (b - 2)
 unfolding answer_used
 used-masses n b l = rw (lt-leb b 1 (omega arith))
-
--- the table of masses of a file whose length is that of its cells
-pub has-masses : (file : List ℕ) → AnswerMeasured file → (n : ℕ) → n ≡ answer_cells file → HasTable list_table file 2 n
-has-masses file f n e = record { fits = list-fits; first = omega arith; whole = rw e (omega (arith, f.whole)) }
 
 module _ (file : List ℕ) where
   abbrev n : ℕ
@@ -99,7 +93,7 @@ module _ (file : List ℕ) where
   unfolding answer_later_verdict answer_later_rules
   later-decides = decides-each (check_block file (answer_used n)) (block_rules file (answer_used n)) (λ b. block-decides file (answer_used n) b (answer-used-small n b)) 2 (k - 1)
 
-  later-accepts : (answer_later_verdict file ≡ Pass) ↔ ((b : ℕ) → 2 ≤ b → b ≤ k → SoundBlock (block_of file b) b × SpareZero file (answer_used n b) b)
+  later-accepts : (answer_later_verdict file ≡ Ok tt) ↔ ((b : ℕ) → 2 ≤ b → b ≤ k → SoundBlock (block_of file b) b × SpareZero file (answer_used n b) b)
   unfolding answer_later_verdict
   later-accepts = later-fits file (answer_used n) (answer-used-small n) k
 
@@ -164,13 +158,13 @@ module _ (file : List ℕ) where
       ),
     )
 
-    pub answer-head-accepts : (answer_head_verdict file room ≡ Pass) ↔ AnswerHeadFits file room
+    pub answer-head-accepts : (answer_head_verdict file room ≡ Ok tt) ↔ AnswerHeadFits file room
     answer-head-accepts = (λ e. head-rules.0 (head-decides.passes.0 e), λ f. head-decides.passes.1 (head-rules.1 f))
 
     pub answer-head-measured : AnswerHeadFits file room → AnswerMeasured file
     answer-head-measured f = record { whole = f.whole; some = f.some; few = f.few }
 
-    pub answer-read-accepts : (answer_read_verdict file room ≡ Pass) ↔ AnswerReadFits file room
+    pub answer-read-accepts : (answer_read_verdict file room ≡ Ok tt) ↔ AnswerReadFits file room
     answer-read-accepts = (
       λ e.
           let p = sym chain ∙ e in
@@ -189,7 +183,7 @@ module _ (file : List ℕ) where
           chain ∙ rw (h, l, s) refl,
     )
 
-    pub answer-read-refuses : (number place : ℕ) → (answer_read_verdict file room ≡ Fail number place) ↔ Broken (answer_read_rules file room) number place
+    pub answer-read-refuses : (number place : ℕ) → (answer_read_verdict file room ≡ refused number place) ↔ Broken (answer_read_rules file room) number place
     answer-read-refuses = answer-read-decides.fails
 
     -- the numbers
@@ -200,22 +194,10 @@ module _ (file : List ℕ) where
         (refuse-each (answer_head_rules file room) (block_rules file (answer_used n)) 2 _ _ (refuse-with (answer_head_rules file room) (14 ∷ 15 ∷ 16 ∷ 1 ∷ 3 ∷ []) refl refl) (λ b. refl))
         (refuse-with (rule 12 (sum (answer_masses file) ≡ M) ∷ []) (12 ∷ []) refl refl) refl refl
 
--- ---- the answer
-
--- what an answer tells is the answer
-read_of : (a : AnswerRead) → answer_read_of (answer_read_tells a) ≡ a
-unfolding answer_read_tells answer_read_of
-read_of (Read n r) = refl
-read_of (Refused number place) = refl
-
-pub answer-read-tells-injective : (a b : AnswerRead) → answer_read_tells a ≡ answer_read_tells b → a ≡ b
-answer-read-tells-injective = injective answer_read_of read_of
-
 -- ---- from the contract alone
 
 -- a file that was read fits; the answer is what block 1 says, and the masses are those of the file, later entries being untouched
-pub answer-read-done : {file masses masses' : List ℕ} {n : ℕ} {r : Repair} → AnswerReadContract file masses (Read n r) masses' → AnswerReadFits file (length masses) × ((n ≡ answer_cells file) × ((r ≡ answer_repair file) × (masses' ≡ written masses 0 (answer_masses file))))
-unfolding answer_read_tells
+pub answer-read-done : {file masses masses' : List ℕ} {n : ℕ} {r : Repair} → AnswerReadContract file masses (Ok (record { cells = n; repair = r })) masses' → AnswerReadFits file (length masses) × ((n ≡ answer_cells file) × ((r ≡ answer_repair file) × (masses' ≡ written masses 0 (answer_masses file))))
 answer-read-done {file} {masses} {masses'} {n} {r} p =
     let e = answered-accepted (answer_read_verdict file (length masses)) (record { cells = n; repair = r }) (answer_of file) p.answers in (
       (answer-read-accepts file (length masses)).0 e.0,
@@ -223,8 +205,7 @@ answer-read-done {file} {masses} {masses'} {n} {r} p =
     )
 
 -- a refused call left the masses as they were
-pub answer-read-refused : {file masses masses' : List ℕ} {number place : ℕ} → AnswerReadContract file masses (Refused number place) masses' → (answer_read_verdict file (length masses) ≡ Fail number place) × (masses' ≡ masses)
-unfolding answer_read_tells
+pub answer-read-refused : {file masses masses' : List ℕ} {number place : ℕ} → AnswerReadContract file masses (refused number place) masses' → (answer_read_verdict file (length masses) ≡ refused number place) × (masses' ≡ masses)
 answer-read-refused {file} {masses} {masses'} {number} {place} p =
     let e = answered-refused (answer_read_verdict file (length masses)) (answer_of file) number place p.answers in
     (e, p.writes ∙ ap (λ v. after v (written masses 0 (answer_masses file)) masses) e)

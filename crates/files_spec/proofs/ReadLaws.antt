@@ -1,6 +1,8 @@
--- What reading's verdict means, that an answer tells its verdict and its values and nothing else, and what the contract alone says of a
--- call. Assumes nothing.
+-- What reading's verdict means, and what the contract alone says of a call. Assumes
+-- nothing.
+use Rattle.std.specs.Prelude.{Ok}
 use mathlib.Core.Path.{◌≡◌, refl, sym, ◌∙◌, ap, ap₂, subst}
+use Rattle.files_spec.specs.declared.Sizes.{Sizes}
 use mathlib.Core.Logic.{◌↔◌}
 use mathlib.Core.Bool.{Bool, true, false, cond, ◌&&◌}
 use mathlib.Core.List.{List, [], ◌∷◌}
@@ -9,28 +11,24 @@ use native.Mathlib.Omega.{arith}
 use borrow.Author.Tests.{le-leb, lt-leb}
 use lib.Dec.{leb}
 use lib.ListN.{length}
-use Rattle.numbers.specs.declared.Checked.{Checked}
-use Rattle.numbers.specs.declared.Checked.TheVariants.{Pass, Fail}
-use Rattle.numbers.specs.Checks.{check_long, after, unless, both, each_from, Decides, rule, Holds, Broken, DecidesAll, RefuseWith}
-use Rattle.numbers.proofs.TestLaws.{and-means, le-means, injective}
+use Rattle.numbers.specs.Checks.{Checked, refused, check_long, after, unless, both, each_from, Decides, rule, Holds, Broken, DecidesAll, RefuseWith}
+use Rattle.numbers.proofs.TestLaws.{and-means, le-means}
 use Rattle.numbers.proofs.CheckLaws.{on, both_first, both-second, both-pass, unless-and, each_append, each-ext, answered-accepted, answered-refused, decides-unless, decides-then, decides-none, decides-append, decides-each, count-decides}
 use Rattle.numbers.proofs.ChainLaws.{refuse-with, refuse-each}
 use Rattle.blocks.specs.Blocks.{block_of, check_block, SoundBlock, SpareZero, block_rules}
-use Rattle.block_tables.specs.Tables.{table_blocks, table_used, TableFits, HasTable, check_table, list_table}
+use Rattle.block_tables.specs.Tables.{table_blocks, table_used, TableFits, check_table, list_table}
 use Rattle.blocks.proofs.BlockLaws.{sound-decides, spare-decides, block-decides}
 use Rattle.blocks.proofs.FileLaws.{length-decides, blocks-decides, mark-decides, later-fits}
-use Rattle.block_tables.proofs.TableLaws.{table_used-small, used-same, list-fits}
+use Rattle.block_tables.proofs.TableLaws.{table_used-small, used-same, list_fits}
 use Rattle.qlt_spec.specs.Field.{Lists}
 use Rattle.qlt_spec.proofs.CheckLaws.{nodes-decides}
-use Rattle.files_spec.specs.declared.FieldRead.{FieldRead}
-use Rattle.files_spec.specs.declared.FieldRead.TheVariants.{Read, Refused}
 use Rattle.files_spec.specs.FieldFile.{cell_table, cell_blocks, field_blocks, field_used}
-use Rattle.files_spec.specs.ReadField.{file_cells, file_nodes, file_total, max_field_file, check_room, room_of, head_verdict, later_verdict, read_verdict, Room, head_rules, later_rules, read_rules, HeadFits, Measured, ReadFits, Sizes, sizes_of, read_tells, field_read_of, lists_read, ReadContract}
+use Rattle.files_spec.specs.ReadField.{file_cells, file_nodes, file_total, max_field_file, check_room, room_of, head_verdict, later_verdict, read_verdict, Room, head_rules, later_rules, read_rules, HeadFits, Measured, ReadFits, sizes_of, lists_read, ReadContract}
 
 -- ---- each check
 
-pub cell-fits : TableFits cell_table
-cell-fits = record { some_words = omega arith; some_records = omega arith; payload = omega arith }
+pub cell_fits : TableFits cell_table
+cell_fits = record { some_words = omega arith; some_records = omega arith; payload = omega arith }
 
 -- no block uses more words than its payload has
 pub used-small : (n m b : ℕ) → field_used n m b ≤ 125
@@ -39,8 +37,8 @@ used-small n m b = go (leb b 1) (leb b (1 + cell_blocks n))
   where
     go : (p q : Bool) → cond p 4 (cond q (table_used cell_table n (b - 2)) (table_used list_table m (b - (2 + cell_blocks n)))) ≤ 125
     go true q = omega arith
-    go false true = table_used-small cell_table cell-fits n (b - 2)
-    go false false = table_used-small list_table list-fits m (b - (2 + cell_blocks n))
+    go false true = table_used-small cell_table cell_fits n (b - 2)
+    go false false = table_used-small list_table list_fits m (b - (2 + cell_blocks n))
 
 -- a block of cells uses what the table of cells says, and so for the parents
 pub used-cells : (n m b : ℕ) → 2 ≤ b → b < 2 + cell_blocks n → field_used n m b ≡ table_used cell_table n (b - 2)
@@ -80,15 +78,6 @@ room-decides n m s =
       λ r. t.1 (r.targets, (r.lows, (r.highs, (r.safe_lows, (r.safe_highs, (r.weights, r.parents)))))),
     ))
 
--- ---- the tables of a file whose length is that of its cells and nodes
-
-module _ (file : List ℕ) (f : Measured file) (n m : ℕ) (e : n ≡ file_cells file) (d : m ≡ file_nodes file) where
-  pub has_cells : HasTable cell_table file 2 n
-  has_cells = record { fits = cell-fits; first = omega arith; whole = rw e (omega (arith, f.whole)) }
-
-  pub has-parents : HasTable list_table file (2 + cell_blocks n) m
-  has-parents = record { fits = list-fits; first = omega arith; whole = rw (e, d) (omega (arith, f.whole)) }
-
 -- ---- the verdict
 
 module _ (file : List ℕ) where
@@ -116,7 +105,7 @@ module _ (file : List ℕ) where
       (each-ext _ _ 2 (cell_blocks n) (λ b l h. used-same file (field_used n m) (λ b. table_used cell_table n (b - 2)) b (used-cells n m b l h)))
       (each-ext _ _ (2 + cell_blocks n) (table_blocks list_table m) (λ b l h. used-same file (field_used n m) (λ b. table_used list_table m (b - (2 + cell_blocks n))) b (used-parents n m b l)))
 
-  later-accepts : (later_verdict file ≡ Pass) ↔ ((b : ℕ) → 2 ≤ b → b ≤ k → SoundBlock (block_of file b) b × SpareZero file (field_used n m b) b)
+  later-accepts : (later_verdict file ≡ Ok tt) ↔ ((b : ℕ) → 2 ≤ b → b ≤ k → SoundBlock (block_of file b) b × SpareZero file (field_used n m b) b)
   unfolding later_verdict
   later-accepts = later-fits file (field_used n m) (used-small n m) k
 
@@ -162,16 +151,13 @@ module _ (file : List ℕ) where
       ),
     )
 
-    pub head-accepts : (head_verdict file s ≡ Pass) ↔ HeadFits file s
+    pub head-accepts : (head_verdict file s ≡ Ok tt) ↔ HeadFits file s
     head-accepts = (λ e. head-rules.0 (head-decides.passes.0 e), λ f. head-decides.passes.1 (head-rules.1 f))
 
     pub head-measured : HeadFits file s → Measured file
     head-measured f = record { whole = f.whole; some = f.some; few = f.few; nodes_few = f.nodes_few }
 
-    pub head-room : HeadFits file s → Room (file_cells file) (file_nodes file) s
-    head-room f = f.room
-
-    pub read-accepts : (read_verdict file s ≡ Pass) ↔ ReadFits file s
+    pub read-accepts : (read_verdict file s ≡ Ok tt) ↔ ReadFits file s
     read-accepts = (
       λ e.
           let p = sym chain ∙ e in
@@ -180,7 +166,7 @@ module _ (file : List ℕ) where
       λ f. chain ∙ sym (on (head-accepts.1 f.head) (sym (later-accepts.1 (λ b i j. (f.sound b i j, f.spare b i j))))),
     )
 
-    pub read-refuses : (number place : ℕ) → (read_verdict file s ≡ Fail number place) ↔ Broken (read_rules file s) number place
+    pub read-refuses : (number place : ℕ) → (read_verdict file s ≡ refused number place) ↔ Broken (read_rules file s) number place
     read-refuses = read-decides.fails
 
 -- ---- the numbers
@@ -191,22 +177,10 @@ read-numbers file s =
     let used = field_used (file_cells file) (file_nodes file) in
     refuse-each (head_rules file s) (block_rules file used) 2 _ _ (refuse-with (head_rules file s) (14 ∷ 15 ∷ 16 ∷ 1 ∷ 2 ∷ 3 ∷ []) refl refl) (λ b. refl)
 
--- ---- the answer
-
--- what an answer tells is the answer
-read_of : (a : FieldRead) → field_read_of (read_tells a) ≡ a
-unfolding read_tells field_read_of
-read_of (Read n m M) = refl
-read_of (Refused number place) = refl
-
-pub read-tells-injective : (a b : FieldRead) → read_tells a ≡ read_tells b → a ≡ b
-read-tells-injective = injective field_read_of read_of
-
 -- ---- from the contract alone
 
 -- a file that was read fits; the answer is what block 1 says, and the lists are what the file says
-pub read_done : {file : List ℕ} {s t : Lists} {n m M : ℕ} → ReadContract file s (Read n m M) t → ReadFits file s × ((n ≡ file_cells file) × ((m ≡ file_nodes file) × ((M ≡ file_total file) × (t ≡ lists_read file s))))
-unfolding read_tells
+pub read_done : {file : List ℕ} {s t : Lists} {n m M : ℕ} → ReadContract file s (Ok (record { cells = n; nodes = m; total = M })) t → ReadFits file s × ((n ≡ file_cells file) × ((m ≡ file_nodes file) × ((M ≡ file_total file) × (t ≡ lists_read file s))))
 read_done {file} {s} {t} {n} {m} {M} p =
     let e = answered-accepted (read_verdict file s) (record { cells = n; nodes = m; total = M }) (sizes_of file) p.answers in (
       (read-accepts file s).0 e.0,
@@ -214,8 +188,7 @@ read_done {file} {s} {t} {n} {m} {M} p =
     )
 
 -- a refused call left the lists as they were
-pub read-refused : {file : List ℕ} {s t : Lists} {number place : ℕ} → ReadContract file s (Refused number place) t → (read_verdict file s ≡ Fail number place) × (t ≡ s)
-unfolding read_tells
+pub read-refused : {file : List ℕ} {s t : Lists} {number place : ℕ} → ReadContract file s (refused number place) t → (read_verdict file s ≡ refused number place) × (t ≡ s)
 read-refused {file} {s} {t} {number} {place} p =
     let e = answered-refused (read_verdict file s) (sizes_of file) number place p.answers in
     (e, p.writes ∙ ap (λ v. after v (lists_read file s) s) e)

@@ -1,5 +1,6 @@
--- What writing's verdict means, that an answer tells its verdict and its length and nothing else, and the file part by part. Assumes
+-- What writing's verdict means, and the file part by part. Assumes
 -- nothing.
+use Rattle.std.specs.Prelude.{Ok}
 use mathlib.Core.Path.{◌≡◌, refl, sym, ◌∙◌, ap}
 use mathlib.Core.Logic.{◌↔◌}
 use mathlib.Core.List.{List, [], ◌∷◌, ◌++◌}
@@ -8,11 +9,10 @@ use native.Mathlib.Omega.{arith}
 use lib.ListN.{length, take}
 use lib.Seq.{length-take-le, get_or-take}
 use borrow.Author.Tests.{lt-leb}
-use Rattle.numbers.specs.declared.Checked.TheVariants.{Pass, Fail}
 use Rattle.numbers.specs.Sums.{ℕ_adds, sum_to}
 use Rattle.numbers.specs.Lists.{at, written, sum}
-use Rattle.numbers.specs.Checks.{Decides, rule, rule_for, Holds, Broken, DecidesAll, RefuseWith}
-use Rattle.numbers.proofs.TestLaws.{and-means, le-means, eq-means, injective}
+use Rattle.numbers.specs.Checks.{refused, Decides, rule, rule_for, Holds, Broken, DecidesAll, RefuseWith}
+use Rattle.numbers.proofs.TestLaws.{and-means, le-means, eq-means}
 use Rattle.numbers.proofs.SumLaws.{sum_to-ext}
 use Rattle.numbers.proofs.CheckLaws.{decides-for, decides-unless, decides-then, decides-none, count-decides}
 use Rattle.numbers.proofs.ChainLaws.{refuse-with}
@@ -20,12 +20,10 @@ use Rattle.blocks.specs.Blocks.{block_bytes, file_bytes}
 use Rattle.block_tables.specs.Tables.{table_bytes, list_table}
 use Rattle.numbers.proofs.PartLaws.{written_on}
 use Rattle.blocks.proofs.BlockLaws.{length-block_bytes}
-use Rattle.block_tables.proofs.TableLaws.{list-fits, table-file}
+use Rattle.block_tables.proofs.TableLaws.{list_fits, table-file}
 use Rattle.qlt_spec.specs.declared.Repair.{Repair}
-use Rattle.files_spec.specs.declared.AnswerWritten.{AnswerWritten}
-use Rattle.files_spec.specs.declared.AnswerWritten.TheVariants.{Bytes, Refused}
 use Rattle.files_spec.specs.AnswerFile.{mass_blocks, answer_blocks, answer_head, mass_block, answer_words, answer_bytes}
-use Rattle.files_spec.specs.WriteAnswer.{WriteCall, check_space, check_outcome, check_masses, write_verdict, write_rules, WriteFits, write_tells, answer_written_of}
+use Rattle.files_spec.specs.WriteAnswer.{WriteCall, check_space, check_outcome, check_masses, write_verdict, write_rules, WriteFits}
 
 -- ---- each check
 
@@ -60,26 +58,15 @@ module _ (c : WriteCall) where
     λ f. ((f.some, f.few), ((f.space, f.masses), (f.outcome, (f.adds_up, tt)))),
   )
 
-  pub write-accepts : (write_verdict c ≡ Pass) ↔ WriteFits c
+  pub write-accepts : (write_verdict c ≡ Ok tt) ↔ WriteFits c
   write-accepts = (λ e. rules-fit.0 (write-decides.passes.0 e), λ f. write-decides.passes.1 (rules-fit.1 f))
 
-  pub write-refuses : (number place : ℕ) → (write_verdict c ≡ Fail number place) ↔ Broken (write_rules c) number place
+  pub write-refuses : (number place : ℕ) → (write_verdict c ≡ refused number place) ↔ Broken (write_rules c) number place
   write-refuses = write-decides.fails
 
   pub write-numbers : RefuseWith (write_rules c) (1 ∷ 3 ∷ 16 ∷ 12 ∷ [])
   unfolding write_rules
   write-numbers = refuse-with (write_rules c) (1 ∷ 3 ∷ 16 ∷ 12 ∷ []) refl refl
-
--- ---- the answer
-
--- what an answer tells is the answer
-written_of : (a : AnswerWritten) → answer_written_of (write_tells a) ≡ a
-unfolding write_tells answer_written_of
-written_of (Bytes l) = refl
-written_of (Refused number place) = refl
-
-pub write-tells-injective : (a b : AnswerWritten) → write_tells a ≡ write_tells b → a ≡ b
-write-tells-injective = injective answer_written_of written_of
 
 -- ---- the file
 
@@ -100,7 +87,7 @@ module _ (n : ℕ) (r : Repair) (masses : List ℕ) where
   -- block 1, then the masses
   answer-parts : answer_bytes n r masses ≡ block_bytes 1 (answer_head n r) ++ table_bytes list_table n (λ i j. at masses i) 2 (mass_blocks n)
   unfolding answer_bytes file_bytes answer_words
-  answer-parts = table-file list_table list-fits n (λ i j. at masses i) (answer_words n r masses) 1 2 (mass_blocks n) refl (λ k l. mass_words k)
+  answer-parts = table-file list_table list_fits n (λ i j. at masses i) (answer_words n r masses) 1 2 (mass_blocks n) refl (λ k l. mass_words k)
 
   -- as the code writes them
   pub answer-written : (d : List ℕ) → written (written d 0 (block_bytes 1 (answer_head n r))) (512 * (2 - 1)) (table_bytes list_table n (λ i j. at masses i) 2 (mass_blocks n)) ≡ written d 0 (answer_bytes n r masses)

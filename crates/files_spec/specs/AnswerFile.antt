@@ -5,11 +5,6 @@ use Rattle.blocks.specs.Blocks.{file_bytes}
 use Rattle.block_tables.specs.Tables.{table_blocks, table_used, table_word, list_table, list_block}
 use Rattle.qlt_spec.specs.declared.Repair.{Repair}
 
--- what is told of a repaired field: its number of cells, and the repair
-pub record Repaired : Type 0 where
-  pub cells : ℕ
-  pub repair : Repair
-
 -- one block, then masses, 125 to a block
 abbrev pub mass_blocks : ℕ → ℕ
 mass_blocks n = table_blocks list_table n

@@ -1,16 +1,14 @@
 -- The operation Read an answer (ticket 1 of 02): its verdict, its answer, and the masses it leaves. Assumes nothing.
 use Rattle.std.specs.Prelude.{◌≡◌, List, [], ◌∷◌, ◌++◌, ℕ, ◌*◌, ◌-◌, ◌≤◌, ◌<◌, length}
-use Rattle.numbers.specs.declared.Checked.{Checked}
+use Rattle.files_spec.specs.declared.Repaired.{Repaired}
 use Rattle.numbers.specs.Lists.{list_to, written, sum}
-use Rattle.numbers.specs.Checks.{Answered, accepted, refused, answered, after, first, each_from, check_count, check_long, Rule, rule, rule_for, rules_from}
+use Rattle.numbers.specs.Checks.{Checked, Answered, answered, after, first, each_from, check_count, check_long, Rule, rule, rule_for, rules_from}
 use Rattle.blocks.specs.Words.{Bytes, two_words}
 use Rattle.blocks.specs.Blocks.{block_of, payload_word, check_sound, check_spare, check_block, SoundBlock, SpareZero, block_rules}
 use Rattle.blocks.specs.Files.{check_file_length, FileLength, check_block_count, check_mark}
 use Rattle.qlt_spec.specs.declared.Repair.{Repair}
-use Rattle.files_spec.specs.AnswerFile.{Repaired, answer_blocks, head_used, answer_used, mass_word}
+use Rattle.files_spec.specs.AnswerFile.{answer_blocks, head_used, answer_used, mass_word}
 use Rattle.files_spec.specs.WriteAnswer.{check_outcome, check_masses}
-use Rattle.files_spec.specs.declared.AnswerRead.{AnswerRead}
-use Rattle.files_spec.specs.declared.AnswerRead.TheVariants.{Read, Refused}
 
 -- ---- what the file says
 
@@ -118,18 +116,8 @@ pub record AnswerReadFits (file : List ℕ) (room : ℕ) : Type 0 where
 abbrev pub answer_of : List ℕ → Repaired
 answer_of file = record { cells = answer_cells file; repair = answer_repair file }
 
--- what an answer tells
-unfoldable pub answer_read_tells : AnswerRead → Answered Repaired
-answer_read_tells (Read n r) = accepted (record { cells = n; repair = r })
-answer_read_tells (Refused number place) = refused number place
-
--- the answer that tells it
-unfoldable pub answer_read_of : Answered Repaired → AnswerRead
-answer_read_of (accepted a) = Read a.cells a.repair
-answer_read_of (refused number place) = Refused number place
-
 -- the whole contract of the operation: entries past n are untouched
-pub record AnswerReadContract (file masses : List ℕ) (answer : AnswerRead) (masses' : List ℕ) : Type 0 where
+pub record AnswerReadContract (file masses : List ℕ) (answer : Answered Repaired) (masses' : List ℕ) : Type 0 where
   pub bytes : Bytes file
-  pub answers : answer_read_tells answer ≡ answered (answer_read_verdict file (length masses)) (answer_of file)
+  pub answers : answer ≡ answered (answer_read_verdict file (length masses)) (answer_of file)
   pub writes : masses' ≡ after (answer_read_verdict file (length masses)) (written masses 0 (answer_masses file)) masses

@@ -1,16 +1,14 @@
 -- The operation Read a field file: its verdict, its answer, and the lists it leaves. Assumes nothing.
 use Rattle.std.specs.Prelude.{◌≡◌, List, [], ◌∷◌, ◌++◌, ℕ, ◌*◌, ◌-◌, ◌≤◌, ◌<◌, length}
-use Rattle.numbers.specs.declared.Checked.{Checked}
+use Rattle.files_spec.specs.declared.Sizes.{Sizes}
 use Rattle.numbers.specs.Lists.{list_to}
-use Rattle.numbers.specs.Checks.{Answered, accepted, refused, answered, after, first, each_from, check_count, check_long, Rule, rule, rule_for, rules_from}
+use Rattle.numbers.specs.Checks.{Checked, Answered, answered, after, first, each_from, check_count, check_long, Rule, rule, rule_for, rules_from}
 use Rattle.blocks.specs.Words.{Bytes, word_signed}
 use Rattle.blocks.specs.Blocks.{block_of, payload_word, check_sound, check_spare, check_block, SoundBlock, SpareZero, block_rules}
 use Rattle.blocks.specs.Files.{check_file_length, FileLength, check_block_count, check_mark}
 use Rattle.qlt_spec.specs.Field.{Lists, lists}
 use Rattle.qlt_spec.specs.Checks.{check_nodes}
 use Rattle.files_spec.specs.FieldFile.{field_blocks, field_used, cell_word, parent_word, over_fronts}
-use Rattle.files_spec.specs.declared.FieldRead.{FieldRead}
-use Rattle.files_spec.specs.declared.FieldRead.TheVariants.{Read, Refused}
 
 -- ---- what block 1 says: n, m and M
 abbrev pub file_cells : List ℕ → ℕ
@@ -133,23 +131,8 @@ pub record ReadFits (file : List ℕ) (s : Lists) : Type 0 where
 
 -- ---- the answer, and the lists at exit
 
-pub record Sizes : Type 0 where
-  pub cells : ℕ
-  pub nodes : ℕ
-  pub total : ℕ
-
 abbrev pub sizes_of : List ℕ → Sizes
 sizes_of file = record { cells = file_cells file; nodes = file_nodes file; total = file_total file }
-
--- what an answer tells
-unfoldable pub read_tells : FieldRead → Answered Sizes
-read_tells (Read n m M) = accepted (record { cells = n; nodes = m; total = M })
-read_tells (Refused number place) = refused number place
-
--- the answer that tells it
-unfoldable pub field_read_of : Answered Sizes → FieldRead
-field_read_of (accepted z) = Read z.cells z.nodes z.total
-field_read_of (refused number place) = Refused number place
 
 -- the field that a file holds
 unfoldable pub file_lists : List ℕ → Lists
@@ -168,7 +151,7 @@ abbrev pub lists_read : List ℕ → Lists → Lists
 lists_read file s = over_fronts s (file_lists file)
 
 -- the whole contract of the operation
-pub record ReadContract (file : List ℕ) (s : Lists) (answer : FieldRead) (t : Lists) : Type 0 where
+pub record ReadContract (file : List ℕ) (s : Lists) (answer : Answered Sizes) (t : Lists) : Type 0 where
   pub bytes : Bytes file
-  pub answers : read_tells answer ≡ answered (read_verdict file s) (sizes_of file)
+  pub answers : answer ≡ answered (read_verdict file s) (sizes_of file)
   pub writes : t ≡ after (read_verdict file s) (lists_read file s) s

@@ -1,6 +1,5 @@
 -- What a field file can hold, and what reading it back means. Assumes nothing.
-use Rattle.std.specs.Prelude.{◌≡◌, ℕ, ◌≤◌, ◌<◌, length}
-use Rattle.numbers.specs.declared.Checked.TheVariants.{Pass}
+use Rattle.std.specs.Prelude.{Ok, ◌≡◌, ℕ, ◌≤◌, ◌<◌, length}
 use Rattle.qlt_spec.specs.Field.{Lists, cells, nodes}
 use Rattle.files_spec.specs.FieldFile.{field_bytes, FieldTyped}
 use Rattle.files_spec.specs.ReadField.{read_verdict, sizes_of, file_lists}
@@ -21,6 +20,6 @@ pub record Storable (f : Lists) (M : ℕ) : Type 0 where
 
 -- reading the file of f and M into the lists s is accepted, tells the sizes and M, and the field that goes to the front of s is f
 pub record FieldBack (f : Lists) (M : ℕ) (s : Lists) : Type 0 where
-  pub passes : read_verdict (field_bytes f M) s ≡ Pass
+  pub passes : read_verdict (field_bytes f M) s ≡ Ok tt
   pub sizes : sizes_of (field_bytes f M) ≡ record { cells = cells f; nodes = nodes f; total = M }
   pub held : file_lists (field_bytes f M) ≡ f

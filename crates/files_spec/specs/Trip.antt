@@ -1,6 +1,9 @@
 -- Files that go both ways (ticket 1 of 02): what the readers accept is what the writers leave, reading it returns what was written, and
 -- writing that again gives the same bytes. Of the operations, by their contracts alone. Assumes nothing.
-use Rattle.std.specs.Prelude.{◌≡◌, ◌↔◌, List, ℕ, ◌≤◌, length, take}
+use Rattle.std.specs.Prelude.{Ok, ◌≡◌, ◌↔◌, List, ℕ, ◌≤◌, length, take}
+use Rattle.numbers.specs.Checks.{Answered}
+use Rattle.files_spec.specs.declared.Sizes.{Sizes}
+use Rattle.files_spec.specs.declared.Repaired.{Repaired}
 use Rattle.numbers.specs.Lists.{written}
 use Rattle.qlt_spec.specs.declared.Repair.{Repair}
 use Rattle.qlt_spec.specs.Field.{Lists}
@@ -9,14 +12,6 @@ use Rattle.files_spec.specs.ReadField.{file_cells, file_nodes, Room, ReadContrac
 use Rattle.files_spec.specs.WriteField.{FieldWriteCall, field_write_call, field_of, FieldWriteContract}
 use Rattle.files_spec.specs.WriteAnswer.{WriteCall, write_call, WriteContract}
 use Rattle.files_spec.specs.ReadAnswer.{answer_cells, AnswerReadContract}
-use Rattle.files_spec.specs.declared.FieldRead.{FieldRead}
-use Rattle.files_spec.specs.declared.FieldRead.TheVariants as field-read
-use Rattle.files_spec.specs.declared.FieldWritten.{FieldWritten}
-use Rattle.files_spec.specs.declared.FieldWritten.TheVariants as field-written
-use Rattle.files_spec.specs.declared.AnswerRead.{AnswerRead}
-use Rattle.files_spec.specs.declared.AnswerRead.TheVariants as answer-read
-use Rattle.files_spec.specs.declared.AnswerWritten.{AnswerWritten}
-use Rattle.files_spec.specs.declared.AnswerWritten.TheVariants as answer-written
 
 -- ---- field files
 
@@ -26,13 +21,13 @@ pub record FieldReading (file : List ℕ) (s : Lists) : Type 0 where
   pub nodes : ℕ
   pub total : ℕ
   pub lists : Lists
-  pub promised : ReadContract file s (field-read.Read cells nodes total) lists
+  pub promised : ReadContract file s (Ok (record { cells = cells; nodes = nodes; total = total })) lists
 
 -- an accepted call of the writer that leaves exactly these bytes: it tells their number, and they stand at the front of the buffer
 pub record FieldWriting (file : List ℕ) : Type 0 where
   pub call : FieldWriteCall
   pub buffer : List ℕ
-  pub promised : FieldWriteContract call (field-written.Bytes (length file)) buffer
+  pub promised : FieldWriteContract call (Ok (length file)) buffer
   pub front : take (length file) buffer ≡ file
 
 pub record FieldTrip (file : List ℕ) (s : Lists) : Type 0 where
@@ -40,13 +35,13 @@ pub record FieldTrip (file : List ℕ) (s : Lists) : Type 0 where
   pub same : FieldReading file s ↔ (FieldWriting file × Room (file_cells file) (file_nodes file) s)
   -- any call of the reader on bytes that the writer left, with s long enough, returns the counts, the total and the lists
   pub returns :
-      (w : FieldWriting file) (answer : FieldRead) (t : Lists) → Room w.call.cells w.call.nodes s → ReadContract file s answer t
-      → (answer ≡ field-read.Read w.call.cells w.call.nodes w.call.total) × (t ≡ over_fronts s (field_of w.call))
+      (w : FieldWriting file) (answer : Answered Sizes) (t : Lists) → Room w.call.cells w.call.nodes s → ReadContract file s answer t
+      → (answer ≡ Ok (record { cells = w.call.cells; nodes = w.call.nodes; total = w.call.total })) × (t ≡ over_fronts s (field_of w.call))
   -- any call of the writer with what was read, into a buffer that is long enough, gives the same bytes
   pub again :
-      (r : FieldReading file s) (buffer : List ℕ) (answer : FieldWritten) (buffer' : List ℕ) → length file ≤ length buffer
+      (r : FieldReading file s) (buffer : List ℕ) (answer : Answered ℕ) (buffer' : List ℕ) → length file ≤ length buffer
       → FieldWriteContract (field_write_call r.cells r.nodes r.total r.lists buffer) answer buffer'
-      → (answer ≡ field-written.Bytes (length file)) × (buffer' ≡ written buffer 0 file)
+      → (answer ≡ Ok (length file)) × (buffer' ≡ written buffer 0 file)
 
 -- ---- answer files
 
@@ -55,13 +50,13 @@ pub record AnswerReading (file masses : List ℕ) : Type 0 where
   pub cells : ℕ
   pub repair : Repair
   pub masses' : List ℕ
-  pub promised : AnswerReadContract file masses (answer-read.Read cells repair) masses'
+  pub promised : AnswerReadContract file masses (Ok (record { cells = cells; repair = repair })) masses'
 
 -- an accepted call of the writer that leaves exactly these bytes
 pub record AnswerWriting (file : List ℕ) : Type 0 where
   pub call : WriteCall
   pub buffer : List ℕ
-  pub promised : WriteContract call (answer-written.Bytes (length file)) buffer
+  pub promised : WriteContract call (Ok (length file)) buffer
   pub front : take (length file) buffer ≡ file
 
 pub record AnswerTrip (file masses : List ℕ) : Type 0 where
@@ -69,10 +64,10 @@ pub record AnswerTrip (file masses : List ℕ) : Type 0 where
   pub same : AnswerReading file masses ↔ (AnswerWriting file × (answer_cells file ≤ length masses))
   -- any call of the reader on bytes that the writer left, with a list that is long enough, returns the count, the repair and the masses
   pub returns :
-      (w : AnswerWriting file) (answer : AnswerRead) (masses' : List ℕ) → w.call.cells ≤ length masses → AnswerReadContract file masses answer masses'
-      → (answer ≡ answer-read.Read w.call.cells w.call.repair) × (masses' ≡ written masses 0 (take w.call.cells w.call.masses))
+      (w : AnswerWriting file) (answer : Answered Repaired) (masses' : List ℕ) → w.call.cells ≤ length masses → AnswerReadContract file masses answer masses'
+      → (answer ≡ Ok (record { cells = w.call.cells; repair = w.call.repair })) × (masses' ≡ written masses 0 (take w.call.cells w.call.masses))
   -- any call of the writer with what was read, into a buffer that is long enough, gives the same bytes
   pub again :
-      (r : AnswerReading file masses) (buffer : List ℕ) (answer : AnswerWritten) (buffer' : List ℕ) → length file ≤ length buffer
+      (r : AnswerReading file masses) (buffer : List ℕ) (answer : Answered ℕ) (buffer' : List ℕ) → length file ≤ length buffer
       → WriteContract (write_call r.cells r.repair r.masses' buffer) answer buffer'
-      → (answer ≡ answer-written.Bytes (length file)) × (buffer' ≡ written buffer 0 file)
+      → (answer ≡ Ok (length file)) × (buffer' ≡ written buffer 0 file)

@@ -1,13 +1,10 @@
 -- The operation Write an answer: its verdict, its answer, and the buffer it leaves. Assumes nothing.
 use Rattle.std.specs.Prelude.{◌≡◌, ◌&&◌, List, [], ◌∷◌, ℕ, ◌*◌, ◌≤◌, ◌<◌, leb, eqb, length}
-use Rattle.numbers.specs.declared.Checked.{Checked}
 use Rattle.numbers.specs.Sums.{ℕ_adds, sum_to}
 use Rattle.numbers.specs.Lists.{at, written}
-use Rattle.numbers.specs.Checks.{Answered, accepted, refused, answered, after, unless, first, check_count, Rule, rule, rule_for}
+use Rattle.numbers.specs.Checks.{Checked, Answered, answered, after, unless, first, check_count, Rule, rule, rule_for}
 use Rattle.qlt_spec.specs.declared.Repair.{Repair}
 use Rattle.files_spec.specs.AnswerFile.{answer_blocks, answer_bytes, AnswerTyped}
-use Rattle.files_spec.specs.declared.AnswerWritten.{AnswerWritten}
-use Rattle.files_spec.specs.declared.AnswerWritten.TheVariants.{Bytes, Refused}
 
 -- ---- all that a call is given
 pub record WriteCall : Type 0 where
@@ -63,18 +60,8 @@ pub record WriteFits (c : WriteCall) : Type 0 where
 
 -- ---- the answer, and the buffer at exit
 
--- what an answer tells: the file's length
-unfoldable pub write_tells : AnswerWritten → Answered ℕ
-write_tells (Bytes l) = accepted l
-write_tells (Refused number place) = refused number place
-
--- the answer that tells it
-unfoldable pub answer_written_of : Answered ℕ → AnswerWritten
-answer_written_of (accepted l) = Bytes l
-answer_written_of (refused number place) = Refused number place
-
--- the whole contract of the operation: bytes past the file are untouched
-pub record WriteContract (c : WriteCall) (answer : AnswerWritten) (buffer : List ℕ) : Type 0 where
+-- the whole contract of the operation: the answer is the file's length; bytes past the file are untouched
+pub record WriteContract (c : WriteCall) (answer : Answered ℕ) (buffer : List ℕ) : Type 0 where
   pub typed : AnswerTyped c.repair c.masses
-  pub answers : write_tells answer ≡ answered (write_verdict c) (512 * answer_blocks c.cells)
+  pub answers : answer ≡ answered (write_verdict c) (512 * answer_blocks c.cells)
   pub writes : buffer ≡ after (write_verdict c) (written c.buffer 0 (answer_bytes c.cells c.repair c.masses)) c.buffer

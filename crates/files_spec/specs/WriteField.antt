@@ -1,15 +1,11 @@
 -- The operation Write a field file (ticket 1 of 02): its verdict, its answer, and the buffer it leaves. Assumes nothing.
-use Rattle.std.specs.Prelude.{◌≡◌, List, [], ◌∷◌, ℕ, ◌*◌, ◌≤◌, ◌<◌, length}
-use Rattle.numbers.specs.declared.Checked.{Checked}
-use Rattle.numbers.specs.declared.Checked.TheVariants.{Pass}
+use Rattle.std.specs.Prelude.{Ok, ◌≡◌, List, [], ◌∷◌, ℕ, ◌*◌, ◌≤◌, ◌<◌, length}
 use Rattle.numbers.specs.Lists.{written}
-use Rattle.numbers.specs.Checks.{Answered, accepted, refused, answered, after, first, check_count, check_long, Rule, rule}
+use Rattle.numbers.specs.Checks.{Checked, Answered, answered, after, first, check_count, check_long, Rule, rule}
 use Rattle.qlt_spec.specs.Field.{Lists}
 use Rattle.qlt_spec.specs.Checks.{check_nodes}
 use Rattle.files_spec.specs.FieldFile.{field_blocks, field_bytes, fronts, FieldTyped}
 use Rattle.files_spec.specs.ReadField.{room_of, Room}
-use Rattle.files_spec.specs.declared.FieldWritten.{FieldWritten}
-use Rattle.files_spec.specs.declared.FieldWritten.TheVariants.{Bytes, Refused}
 
 -- ---- all that a call is given; the lists may be longer than the field
 pub record FieldWriteCall : Type 0 where
@@ -53,22 +49,12 @@ pub record FieldWriteFits (c : FieldWriteCall) : Type 0 where
 
 -- ---- the answer, and the buffer at exit
 
--- what an answer tells: the file's length
-unfoldable pub field_write_tells : FieldWritten → Answered ℕ
-field_write_tells (Bytes l) = accepted l
-field_write_tells (Refused number place) = refused number place
-
--- the answer that tells it
-unfoldable pub field_written_of : Answered ℕ → FieldWritten
-field_written_of (accepted l) = Bytes l
-field_written_of (refused number place) = Refused number place
-
 -- the field that is written: the first n cells and m nodes of the lists
 abbrev pub field_of : FieldWriteCall → Lists
 field_of c = fronts c.cells c.nodes c.lists
 
--- the whole contract of the operation: what is written fits its type; bytes past the file are untouched
-pub record FieldWriteContract (c : FieldWriteCall) (answer : FieldWritten) (buffer : List ℕ) : Type 0 where
-  pub typed : field_write_verdict c ≡ Pass → FieldTyped (field_of c) c.total
-  pub answers : field_write_tells answer ≡ answered (field_write_verdict c) (512 * field_blocks c.cells c.nodes)
+-- the whole contract of the operation: the answer is the file's length; what is written fits its type; bytes past the file are untouched
+pub record FieldWriteContract (c : FieldWriteCall) (answer : Answered ℕ) (buffer : List ℕ) : Type 0 where
+  pub typed : field_write_verdict c ≡ Ok tt → FieldTyped (field_of c) c.total
+  pub answers : answer ≡ answered (field_write_verdict c) (512 * field_blocks c.cells c.nodes)
   pub writes : buffer ≡ after (field_write_verdict c) (written c.buffer 0 (field_bytes (field_of c) c.total)) c.buffer

@@ -20,37 +20,17 @@ pub const MAX_ANSWER_FILE: usize = 3072;
 // The payload words that an answer file's block 1 uses; `head_used` in specs/AnswerFile.antt.
 pub const HEAD_USED: usize = 8;
 
-// What reading a field file answers: the sizes and M, the lists being written; or the refusal.
+// What a field file that was read gives beside the lists: their lengths, and M.
 #[derive(Clone, Copy)]
-pub enum FieldRead {
-    Read {
-        cells: usize,
-        nodes: usize,
-        total: u32,
-    },
-    Refused {
-        number: u32,
-        place: u32,
-    },
+pub struct Sizes {
+    pub cells: usize,
+    pub nodes: usize,
+    pub total: u32,
 }
 
-// What writing a field file answers: how many bytes the file has; or the refusal.
+// What is told of a repaired field beside its masses: the number of its cells, and the repair.
 #[derive(Clone, Copy)]
-pub enum FieldWritten {
-    Bytes(usize),
-    Refused { number: u32, place: u32 },
-}
-
-// What writing an answer file answers: how many bytes the file has; or the refusal.
-#[derive(Clone, Copy)]
-pub enum AnswerWritten {
-    Bytes(usize),
-    Refused { number: u32, place: u32 },
-}
-
-// What reading an answer file answers: the number of cells and what is told of the repair, the masses being written; or the refusal.
-#[derive(Clone, Copy)]
-pub enum AnswerRead {
-    Read { cells: usize, repair: Repair },
-    Refused { number: u32, place: u32 },
+pub struct Repaired {
+    pub cells: usize,
+    pub repair: Repair,
 }

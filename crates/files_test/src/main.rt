@@ -24,14 +24,15 @@
 // and the kit's `io`.
 #![tactic(auto)]
 
-ghost use Rattle.std.specs.Prelude.{◌≤◌, ◌<◌, length};
-
-use input::{FieldCase, Lengths, WriteCase};
-use numbers::arith::index;
+use input::Space;
+use qlt_spec::FieldLists;
+use std::fmt;
+use std::fmt::Write;
 use std::fs::File;
 use test_support::files::{last_digit, load, open, open_field};
-use test_support::input::{STANDARD_INPUT, later, read_unsigned, skip};
-use test_support::output::{end_line, show_no_kind};
+use test_support::input::STANDARD_INPUT;
+use test_support::output::Output;
+use test_support::reader::Reader;
 
 mod input;
 mod output;
@@ -53,315 +54,143 @@ fn open_answer(rt: &HostRuntime, number: u64) -> Option<File> {
     open(rt, &name)
 }
 
-// Reads a field file into lists, and prints the line of the case.
-fn run_lists(
-    file: &[u8],
-    targets: &mut [i32],
-    lows: &mut [u32],
-    highs: &mut [u32],
-    safe_lows: &mut [u32],
-    safe_highs: &mut [u32],
-    weights: &mut [u32],
-    parents: &mut [u32],
-) {
+// Runs Read a field file on the case that stands next, and prints its line.
+fn run_read(rt: &HostRuntime, reader: &mut Reader) -> fmt::Result {
+    let number = reader.unsigned();
+    let lengths = input::read_lengths(reader);
+    let mut file = [0; 20000];
+    let n = load(open_field(rt, number), &mut file);
+    let mut space = Space::new(7, 7);
+    let targets = &mut space.targets[..lengths.targets];
+    let lows = &mut space.lows[..lengths.lows];
+    let highs = &mut space.highs[..lengths.highs];
+    let safe_lows = &mut space.safe_lows[..lengths.safe_lows];
+    let safe_highs = &mut space.safe_highs[..lengths.safe_highs];
+    let weights = &mut space.weights[..lengths.weights];
+    let parents = &mut space.parents[..lengths.parents];
     let answer = field_file::read_field(
-        file, targets, lows, highs, safe_lows, safe_highs, weights, parents,
+        &file[..n],
+        targets,
+        lows,
+        highs,
+        safe_lows,
+        safe_highs,
+        weights,
+        parents,
     );
-    output::print_read(answer);
-    output::print_targets(targets);
-    output::print_list(lows);
-    output::print_list(highs);
-    output::print_list(safe_lows);
-    output::print_list(safe_highs);
-    output::print_list(weights);
-    output::print_list(parents);
-    end_line();
-}
-
-// The same for the parts of lists that have the lengths.
-fn run_parts(
-    lengths: Lengths,
-    file: &[u8],
-    targets: &mut [i32],
-    lows: &mut [u32],
-    highs: &mut [u32],
-    safe_lows: &mut [u32],
-    safe_highs: &mut [u32],
-    weights: &mut [u32],
-    parents: &mut [u32],
-)
-    requires targets_in_bounds { (lengths.targets ≤ length targets.old) × (lengths.lows ≤ length lows.old) × (lengths.highs ≤ length highs.old) }
-    requires safe_lows_in_bounds { (lengths.safe_lows ≤ length safe_lows.old) × (lengths.safe_highs ≤ length safe_highs.old) }
-    requires weights_in_bounds { (lengths.weights ≤ length weights.old) × (lengths.parents ≤ length parents.old) }
-{
-    let target = lengths.targets;
-    let low = lengths.lows;
-    let high = lengths.highs;
-    let safe_low = lengths.safe_lows;
-    let safe_high = lengths.safe_highs;
-    let weight = lengths.weights;
-    let parent = lengths.parents;
-    run_lists(
-        file,
-        &mut targets[0..target],
-        &mut lows[0..low],
-        &mut highs[0..high],
-        &mut safe_lows[0..safe_low],
-        &mut safe_highs[0..safe_high],
-        &mut weights[0..weight],
-        &mut parents[0..parent],
-    );
-}
-
-// Runs Read a field file on the case whose numbers start at `at`. Returns the position behind them.
-fn run_read(rt: &HostRuntime, text: &[u8], at: usize) -> usize
-    requires { at ≤ length text.now }
-    ensures { result ≤ length text.now }
-{
-    let number = read_unsigned(text, at);
-    let lengths = input::read_lengths(text, number.next);
-    let mut space = [0u8; 20000];
-    let n = load(open_field(rt, number.value), &mut space);
-    let mut targets = [7i32; 520];
-    let mut lows = [7u32; 520];
-    let mut highs = [7u32; 520];
-    let mut safe_lows = [7u32; 520];
-    let mut safe_highs = [7u32; 520];
-    let mut weights = [7u32; 520];
-    let mut parents = [7u32; 1030];
-    run_parts(
-        lengths,
-        &space[..n],
-        &mut targets,
-        &mut lows,
-        &mut highs,
-        &mut safe_lows,
-        &mut safe_highs,
-        &mut weights,
-        &mut parents,
-    );
-    lengths.next
-}
-
-// Writes an answer into the part of a buffer that a case names, and prints the line of the case.
-fn run_buffer(case: WriteCase, masses: &[u32], buffer: &mut [u8])
-    requires { (case.masses ≤ length masses.now) × (case.buffer ≤ length buffer.old) }
-{
-    let n = case.masses;
-    let k = case.buffer;
-    let answer = answer_file::write_answer(
-        case.cells,
-        case.repair,
-        &masses[0..n],
-        &mut buffer[0..k],
-    );
-    output::print_written(answer);
-    output::print_bytes(&buffer[0..k]);
-    end_line();
+    match answer {
+        Ok(sizes) => write!(
+            Output,
+            "read {} {} {}",
+            sizes.cells, sizes.nodes, sizes.total
+        )?,
+        Err(refusal) => write!(Output, "{refusal}")?,
+    }
+    output::print_targets(targets)?;
+    output::print_list(lows)?;
+    output::print_list(highs)?;
+    output::print_list(safe_lows)?;
+    output::print_list(safe_highs)?;
+    output::print_list(weights)?;
+    output::print_list(parents)?;
+    writeln!(Output)
 }
 
 // The same for Write an answer.
-fn run_write(text: &[u8], at: usize) -> usize
-    requires { at ≤ length text.now }
-    ensures { result ≤ length text.now }
-{
-    let case = input::read_write(text, at);
-    let mut masses = [0u32; 600];
-    input::fill(case.rule, &mut masses);
-    let mut buffer = [9u8; 4096];
-    run_buffer(case, &masses, &mut buffer);
-    case.next
+fn run_write(reader: &mut Reader) -> fmt::Result {
+    let case = input::read_write(reader);
+    let mut masses = [0; 600];
+    case.rule.fill(0, &mut masses, |x| x);
+    let mut buffer = [9; 4096];
+    let buffer = &mut buffer[..case.buffer];
+    let answer = answer_file::write_answer(case.cells, case.repair, &masses[..case.masses], buffer);
+    output::print_written(answer, buffer)
 }
 
 // The same for Payload.
-fn run_payload(rt: &HostRuntime, text: &[u8], at: usize) -> usize
-    requires { at ≤ length text.now }
-    ensures { result ≤ length text.now }
-{
-    let number = read_unsigned(text, at);
-    let block = read_unsigned(text, number.next);
-    let mut space = [0u8; 20000];
-    let n = load(open_field(rt, number.value), &mut space);
-    output::print_payload(blocks::payload(&space[..n], index(block.value)));
-    end_line();
-    block.next
-}
-
-// Writes the field file of lists into a buffer, and prints the line of the case.
-fn run_field_lists(
-    cells: usize,
-    nodes: usize,
-    total: u32,
-    targets: &[i32],
-    lows: &[u32],
-    highs: &[u32],
-    safe_lows: &[u32],
-    safe_highs: &[u32],
-    weights: &[u32],
-    parents: &[u32],
-    buffer: &mut [u8],
-) {
-    let answer = field_file::write_field(
-        cells, nodes, total, targets, lows, highs, safe_lows, safe_highs, weights, parents, buffer,
-    );
-    output::print_field(answer);
-    output::print_bytes(buffer);
-    end_line();
-}
-
-// The same for the parts of lists and of a buffer that a case names.
-fn run_field_parts(
-    case: FieldCase,
-    targets: &[i32],
-    lows: &[u32],
-    highs: &[u32],
-    safe_lows: &[u32],
-    safe_highs: &[u32],
-    weights: &[u32],
-    parents: &[u32],
-    buffer: &mut [u8],
-)
-    requires targets_in_bounds { (case.lengths.targets ≤ length targets.now) × (case.lengths.lows ≤ length lows.now) }
-    requires highs_in_bounds { (case.lengths.highs ≤ length highs.now) × (case.lengths.safe_lows ≤ length safe_lows.now) }
-    requires safe_highs_in_bounds { (case.lengths.safe_highs ≤ length safe_highs.now) × (case.lengths.weights ≤ length weights.now) }
-    requires parents_in_bounds { (case.lengths.parents ≤ length parents.now) × (case.buffer ≤ length buffer.old) }
-{
-    let target = case.lengths.targets;
-    let low = case.lengths.lows;
-    let high = case.lengths.highs;
-    let safe_low = case.lengths.safe_lows;
-    let safe_high = case.lengths.safe_highs;
-    let weight = case.lengths.weights;
-    let parent = case.lengths.parents;
-    let k = case.buffer;
-    run_field_lists(
-        case.cells,
-        case.nodes,
-        case.total,
-        &targets[0..target],
-        &lows[0..low],
-        &highs[0..high],
-        &safe_lows[0..safe_low],
-        &safe_highs[0..safe_high],
-        &weights[0..weight],
-        &parents[0..parent],
-        &mut buffer[0..k],
-    );
-}
-
-// Fills the lists by the rule of a case, and runs it.
-fn run_filled(
-    case: FieldCase,
-    targets: &mut [i32],
-    lows: &mut [u32],
-    highs: &mut [u32],
-    safe_lows: &mut [u32],
-    safe_highs: &mut [u32],
-    weights: &mut [u32],
-    parents: &mut [u32],
-    buffer: &mut [u8],
-)
-    requires targets_in_bounds { (case.lengths.targets ≤ length targets.old) × (case.lengths.lows ≤ length lows.old) }
-    requires highs_in_bounds { (case.lengths.highs ≤ length highs.old) × (case.lengths.safe_lows ≤ length safe_lows.old) }
-    requires safe_highs_in_bounds { (case.lengths.safe_highs ≤ length safe_highs.old) × (case.lengths.weights ≤ length weights.old) }
-    requires parents_in_bounds { (case.lengths.parents ≤ length parents.old) × (case.buffer ≤ length buffer.old) }
-    requires step_bound { (case.rule.step ≤ 4294967295) × (0 < case.rule.modulus) × (case.rule.modulus ≤ 4294967296) }
-{
-    input::fill_lists(
-        case.rule, targets, lows, highs, safe_lows, safe_highs, weights, parents,
-    );
-    run_field_parts(
-        case, targets, lows, highs, safe_lows, safe_highs, weights, parents, buffer,
-    );
+fn run_payload(rt: &HostRuntime, reader: &mut Reader) -> fmt::Result {
+    let number = reader.unsigned();
+    let block = reader.unsigned() as usize;
+    let mut file = [0; 20000];
+    let n = load(open_field(rt, number), &mut file);
+    let part = blocks::payload(&file[..n], block);
+    write!(Output, "payload {}", part.len())?;
+    output::print_bytes(part)?;
+    writeln!(Output)
 }
 
 // The same for Write a field.
-fn run_field(text: &[u8], at: usize) -> usize
-    requires { at ≤ length text.now }
-    ensures { result ≤ length text.now }
-{
-    let case = input::read_field_case(text, at);
-    let mut targets = [0i32; 520];
-    let mut lows = [0u32; 520];
-    let mut highs = [0u32; 520];
-    let mut safe_lows = [0u32; 520];
-    let mut safe_highs = [0u32; 520];
-    let mut weights = [0u32; 520];
-    let mut parents = [0u32; 1030];
-    let mut buffer = [9u8; 20000];
-    run_filled(
-        case,
-        &mut targets,
-        &mut lows,
-        &mut highs,
-        &mut safe_lows,
-        &mut safe_highs,
-        &mut weights,
-        &mut parents,
-        &mut buffer,
-    );
-    case.next
-}
-
-// Reads an answer into the first k places of a list, and prints the line of the case.
-fn run_masses(file: &[u8], masses: &mut [u32], k: usize)
-    requires { k ≤ length masses.old }
-{
-    let answer = answer_file::read_answer(file, &mut masses[0..k]);
-    output::print_answer(answer);
-    output::print_list(&masses[0..k]);
-    end_line();
+fn run_field(reader: &mut Reader) -> fmt::Result {
+    let case = input::read_field_case(reader);
+    let mut space = Space::new(0, 0);
+    space.fill(case.rule);
+    let field = FieldLists {
+        targets: &space.targets[..case.lengths.targets],
+        lows: &space.lows[..case.lengths.lows],
+        highs: &space.highs[..case.lengths.highs],
+        safe_lows: &space.safe_lows[..case.lengths.safe_lows],
+        safe_highs: &space.safe_highs[..case.lengths.safe_highs],
+        weights: &space.weights[..case.lengths.weights],
+        parents: &space.parents[..case.lengths.parents],
+    };
+    let mut buffer = [9; 20000];
+    let buffer = &mut buffer[..case.buffer];
+    let answer = field_file::write_field(case.cells, case.nodes, case.total, &field, buffer);
+    output::print_written(answer, buffer)
 }
 
 // The same for Read an answer.
-fn run_answer(rt: &HostRuntime, text: &[u8], at: usize) -> usize
-    requires { at ≤ length text.now }
-    ensures { result ≤ length text.now }
-{
-    let number = read_unsigned(text, at);
-    let room = input::read_length(text, number.next, 600);
-    let mut space = [0u8; 20000];
-    let n = load(open_answer(rt, number.value), &mut space);
-    let mut masses = [7u32; 600];
-    run_masses(&space[..n], &mut masses, room.value);
-    room.next
+fn run_answer(rt: &HostRuntime, reader: &mut Reader) -> fmt::Result {
+    let number = reader.unsigned();
+    let room = input::read_length(reader, 600);
+    let mut file = [0; 20000];
+    let n = load(open_answer(rt, number), &mut file);
+    let mut masses = [7; 600];
+    let masses = &mut masses[..room];
+    match answer_file::read_answer(&file[..n], masses) {
+        Ok(told) => write!(
+            Output,
+            "read {} {} {} {} {}",
+            told.cells,
+            told.repair.outcome,
+            told.repair.total,
+            told.repair.change,
+            told.repair.shared
+        )?,
+        Err(refusal) => write!(Output, "{refusal}")?,
+    }
+    output::print_list(masses)?;
+    writeln!(Output)
 }
 
-// Runs the case that starts at `at`. Returns where the next may start.
-fn run_case(rt: &HostRuntime, text: &[u8], at: usize) -> usize
-    requires { at ≤ length text.now }
-{
-    let kind = read_unsigned(text, at);
-    if kind.value == 1 {
-        return skip(text, run_read(rt, text, kind.next));
+// Runs the case that stands next.
+fn run_case(rt: &HostRuntime, reader: &mut Reader) -> fmt::Result {
+    match reader.unsigned() {
+        1 => run_read(rt, reader),
+        2 => run_write(reader),
+        3 => run_payload(rt, reader),
+        4 => run_field(reader),
+        5 => run_answer(rt, reader),
+        _ => writeln!(Output, "no such kind"),
     }
-    if kind.value == 2 {
-        return skip(text, run_write(text, kind.next));
-    }
-    if kind.value == 3 {
-        return skip(text, run_payload(rt, text, kind.next));
-    }
-    if kind.value == 4 {
-        return skip(text, run_field(text, kind.next));
-    }
-    if kind.value == 5 {
-        return skip(text, run_answer(rt, text, kind.next));
-    }
-    show_no_kind();
-    skip(text, kind.next)
 }
 
-// Runs all cases. Each takes at least a byte, so that the loop ends whatever the bytes are.
-fn run_all(rt: &HostRuntime, text: &[u8]) {
-    let mut at = skip(text, 0);
-    while at < text.len() {
-        at = later(at + 1, run_case(rt, text, at));
+// Runs the cases of a text. There are no more of them than bytes.
+fn run_all(rt: &HostRuntime, text: &[u8]) -> fmt::Result {
+    let mut reader = Reader::new(text);
+    for _ in 0..text.len() {
+        if !reader.begin_case() {
+            break;
+        }
+        run_case(rt, &mut reader)?;
+        reader.skip();
     }
+    Ok(())
 }
 
 // Reads the input, and runs its cases.
 fn main(rt: HostRuntime) {
     let mut space = io::large_buffer();
     let n = io::read_full(STANDARD_INPUT, &mut space);
-    run_all(&rt, &space[..n]);
+    let _ = run_all(&rt, &space[..n]);
 }

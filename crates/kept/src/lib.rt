@@ -5,22 +5,26 @@
 
 ghost use Rattle.kept_spec.specs.Open.{OpenContract};
 ghost use Rattle.kept_spec.specs.Step.{step_call, StepContract};
-ghost use Rattle.qlt_spec.specs.Field.{lists};
+ghost use Rattle.qlt_spec.specs.Field.{lists_of};
 
+use crate::extended::step_with;
 use kept_checks::verdict::open_verdict;
-use kept_spec::{Balance, Opened, Stepped};
-use numbers::Checked;
+use kept_spec::{Balance, Stepped};
+use numbers::Refusal;
+use numbers::lists::sum_of;
+use qlt_spec::FieldLists;
 
-mod accepted;
 pub mod extended;
-mod work;
 
 // Adds up n kept masses and returns their balance at the scale given.
-pub fn open(kept: &[u32], scale: u32) -> Opened
+pub fn open(kept: &[u32], scale: u32) -> Result<Balance, Refusal>
     ensures { OpenContract kept.now scale result }
 {
-    let verdict = open_verdict(Checked::Pass, kept, scale);
-    work::open_by(verdict, kept, scale)
+    open_verdict(Ok(()), kept, scale)?;
+    Ok(Balance {
+        total: sum_of(kept) as u32,
+        scale,
+    })
 }
 
 // Steps a kept field: M is the balance's total plus the source; the masses of the new field for M replace the kept ones, and the new balance
@@ -31,37 +35,21 @@ pub fn step(
     kept: &mut [u32],
     source: i32,
     scale: u32,
-    targets: &[i32],
-    lows: &[u32],
-    highs: &[u32],
-    safe_lows: &[u32],
-    safe_highs: &[u32],
-    weights: &[u32],
-    parents: &[u32],
+    field: &FieldLists,
     scratch: &mut [i64],
     book: &mut [u8],
     told: usize,
-) -> Stepped
-    ensures { StepContract
-        (step_call balance kept.old source scale
-        (lists targets.now lows.now highs.now safe_lows.now safe_highs.now
-        weights.now parents.now)
-        scratch.old book.old told)
+) -> Result<Stepped, Refusal>
+    ensures { StepContract (step_call balance kept.old source scale (lists_of field.now) scratch.old book.old told)
         result kept.new scratch.new book.new }
 {
-    extended::step_with(
-        Checked::Pass,
+    step_with(
+        Ok(()),
         balance,
         kept,
         source,
         scale,
-        targets,
-        lows,
-        highs,
-        safe_lows,
-        safe_highs,
-        weights,
-        parents,
+        field,
         scratch,
         book,
         told,

@@ -1,130 +1,70 @@
-// The checks of Open and Step in 01's order, with a check `own` put in, of the operation that calls them; `Pass` if there is none.
-ghost use Rattle.std.specs.Prelude.{◌≡◌, [], ◌∷◌, ◌≤◌, pos, ◌+ℤ◌, length};
+// The checks of Open and Step in 01's order, with a check `own` put in, of the operation that calls them; `Ok` if there is none.
+ghost use Rattle.std.specs.Prelude.{◌≡◌, [], ◌∷◌, pos, ◌+ℤ◌, length};
 ghost use Rattle.numbers.specs.Signed.{over};
-ghost use Rattle.numbers.specs.Checks.{first, check_total};
-ghost use Rattle.qlt_spec.specs.Field.{lists};
-ghost use Rattle.qlt_spec.specs.Checks.{check_values, check_reach};
-ghost use Rattle.field_checks.specs.Lists.{Sized};
+ghost use Rattle.numbers.specs.Checks.{first, answered, check_total};
+ghost use Rattle.qlt_spec.specs.Field.{lists_of};
+ghost use Rattle.qlt_spec.specs.Checks.{shape_of, check_values, check_reach};
+ghost use Rattle.book_spec.specs.StartBook.{check_buffer};
+ghost use Rattle.book_spec.specs.LentBook.{lent_checks};
 ghost use Rattle.kept_spec.specs.Open.{open_verdict_with};
-ghost use Rattle.kept_spec.specs.Step.{step_call, check_same_scale, check_kept, step_verdict_with};
+ghost use Rattle.kept_spec.specs.Step.{check_same_scale, check_kept};
 
-use crate::totals::{add_source, check_kept, check_same_scale, whole};
+use crate::totals::{check_kept, check_same_scale, new_total};
 use book::lent::check_lent;
 use field_checks::shape::check_shape;
 use field_checks::total::check_reach;
 use field_checks::values::check_values;
 use kept_spec::Balance;
-use numbers::Checked;
-use numbers::arith::signed;
-use numbers::checks::{check_count, check_long, check_scale, check_total, then};
+use numbers::Refusal;
+use numbers::checks::{check_count, check_long, check_scale, check_total};
 use numbers::lists::sum_of;
+use qlt_spec::FieldLists;
 
 // Open's checks: 1; 9; the one put in; 13.
-pub fn open_verdict(own: Checked, kept: &[u32], scale: u32) -> Checked
+#[tactic(auto, unfolding(kept_spec::specs::Open::open_verdict_with), using(numbers::proofs::CheckLaws::last))]
+pub fn open_verdict(own: Result<(), Refusal>, kept: &[u32], scale: u32) -> Result<(), Refusal>
     ensures { result ≡ open_verdict_with (own ∷ []) kept.now scale }
 {
-    let count = check_count(kept.len());
-    let in_range = check_scale(scale);
-    let shape = then(count, in_range);
-    let inputs = then(shape, own);
-    if let Checked::Fail { number, place } = inputs {
-        return Checked::Fail { number, place };
-    }
-    check_total(signed(sum_of(kept)))
+    check_count(kept.len())?;
+    check_scale(scale)?;
+    own?;
+    check_total(sum_of(kept) as i64)
 }
 
-// Step's checks of the masses, which count on the lengths: 17; 4 to 7; 12; 13; the one put in; 8.
-fn masses_verdict(
-    own: Checked,
-    balance: Balance,
-    kept: &[u32],
-    source: i32,
-    scale: u32,
-    targets: &[i32],
-    lows: &[u32],
-    highs: &[u32],
-    safe_lows: &[u32],
-    safe_highs: &[u32],
-    weights: &[u32],
-    parents: &[u32],
-) -> Checked
-    requires { Sized (lists targets.now lows.now highs.now safe_lows.now safe_highs.now weights.now parents.now) × (length kept.now ≤ 1024) }
-    ensures { result ≡ first
-        (check_same_scale scale balance.scale
-        ∷ check_values
-        (lists targets.now lows.now highs.now safe_lows.now safe_highs.now
-        weights.now parents.now)
-        ∷ check_kept kept.now balance.total
-        ∷ check_total (pos balance.total +ℤ source)
-        ∷ own
-        ∷ check_reach safe_lows.now safe_highs.now (over (pos balance.total +ℤ source))
-        ∷ []) }
-{
-    let same_scale = check_same_scale(scale, balance.scale);
-    let values = check_values(
-        targets, lows, highs, safe_lows, safe_highs, weights, parents,
-    );
-    let inputs = then(same_scale, values);
-    if let Checked::Fail { number, place } = inputs {
-        return Checked::Fail { number, place };
-    }
-    let adds_up = check_kept(kept, balance.total);
-    if let Checked::Fail { number, place } = adds_up {
-        return Checked::Fail { number, place };
-    }
-    let next = add_source(balance.total, source);
-    let small = check_total(next);
-    if let Checked::Fail { number, place } = small {
-        return Checked::Fail { number, place };
-    }
-    let reach = check_reach(safe_lows, safe_highs, whole(next));
-    then(own, reach)
-}
-
-// Step's checks: 1 to 3, the kept list and then the book's buffer counted under 3; those of the masses, with the one put in; those of the book.
+// Step's checks: 1 to 3, the kept list and then the book's buffer counted under 3; 17; 4 to 7; 12; 13; the one put in; 8; those of the book. Gives the
+// new total. The contract's list is `step_checks_with` of kept_spec, with `own` put in.
 pub fn step_verdict(
-    own: Checked,
+    own: Result<(), Refusal>,
     balance: Balance,
     kept: &[u32],
     source: i32,
     scale: u32,
-    targets: &[i32],
-    lows: &[u32],
-    highs: &[u32],
-    safe_lows: &[u32],
-    safe_highs: &[u32],
-    weights: &[u32],
-    parents: &[u32],
+    field: &FieldLists,
     scratch: &[i64],
     book: &[u8],
     told: usize,
-) -> Checked
-    ensures { result ≡ step_verdict_with (own ∷ [])
-        (step_call balance kept.now source scale
-        (lists targets.now lows.now highs.now safe_lows.now safe_highs.now
-        weights.now parents.now)
-        scratch.now book.now told) }
+) -> Result<u32, Refusal>
+    ensures { result ≡ answered
+        (first
+        (shape_of (length kept.now) (lists_of field.now) (length scratch.now)
+        ∷ check_buffer (length book.now)
+        ∷ check_same_scale scale balance.scale
+        ∷ check_values (lists_of field.now)
+        ∷ check_kept kept.now balance.total
+        ∷ check_total (pos balance.total +ℤ source)
+        ∷ own
+        ∷ check_reach field.now.safe_lows.now field.now.safe_highs.now (over (pos balance.total +ℤ source))
+        ∷ lent_checks book.now told balance.total))
+        (over (pos balance.total +ℤ source)) }
 {
-    let shape = check_shape(
-        targets.len(),
-        parents.len(),
-        kept.len(),
-        lows.len(),
-        highs.len(),
-        safe_lows.len(),
-        safe_highs.len(),
-        weights.len(),
-        scratch.len(),
-    );
-    let room = check_long(book.len(), 32768);
-    let lengths = then(shape, room);
-    if let Checked::Fail { number, place } = lengths {
-        return Checked::Fail { number, place };
-    }
-    let masses = masses_verdict(
-        own, balance, kept, source, scale, targets, lows, highs, safe_lows, safe_highs, weights,
-        parents,
-    );
-    let lent = check_lent(book, told, balance.total);
-    then(masses, lent)
+    check_shape(field, kept.len(), scratch.len())?;
+    check_long(book.len(), 32768)?;
+    check_same_scale(scale, balance.scale)?;
+    check_values(field)?;
+    check_kept(kept, balance.total)?;
+    let total = new_total(balance.total, source)?;
+    own?;
+    check_reach(field.safe_lows, field.safe_highs, total)?;
+    check_lent(book, told, balance.total)?;
+    Ok(total)
 }

@@ -2,26 +2,26 @@
 -- book of the records of the accepted steps since the last start; it closes with its opening total plus the recorded sources, which is the sum of
 -- the kept masses. The account of the masses is demand 3's, by the run without the book. Runs are not empty talk: a book that is lent along changes
 -- nothing but 21, and a full one can be replaced. Assumes nothing.
+use Rattle.std.specs.Prelude.{Ok, Err}
 use mathlib.Core.Path.{◌≡◌, refl, sym, ◌∙◌, ap, ap₂, subst}
 use mathlib.Core.List.{List, [], ◌∷◌, ◌++◌, append-nil}
 use Prim.Native.Nat.{ℕ, ◌≤◌}
 use native.Mathlib.Omega.{arith}
 use lib.ListN.{length}
-use Rattle.numbers.specs.declared.Checked.TheVariants.{Pass, Fail}
-use Rattle.numbers.specs.Checks.{Answered, accepted, refused, first, max_total}
+use Rattle.numbers.specs.Checks.{Answered, refused, first, max_total}
 use Rattle.numbers.proofs.PartLaws.{part-whole}
 use Rattle.numbers.proofs.CheckLaws.{on, answered-accepted}
 use Rattle.book_spec.specs.Book.{entry, Book, book, count, closing, add, max_entries, max_bytes}
-use Rattle.book_spec.specs.StartBook.{book_start_verdict, book_start_tells}
+use Rattle.book_spec.specs.StartBook.{book_start_verdict}
 use Rattle.book_spec.specs.LentBook.{held_in, HasBook, check_full}
 use Rattle.book_spec.proofs.ReportLaws.{closing-recorded}
 use Rattle.book_spec.proofs.HeldLaws.{has-read}
 use Rattle.book_spec.proofs.StartLaws.{empty-closing, book-start-accepts, started}
 use Rattle.book_spec.proofs.LentLaws.{full-decides}
 use Rattle.kept_spec.specs.declared.Balance.{Balance}
-use Rattle.kept_spec.specs.declared.Opened.{Opened}
-use Rattle.kept_spec.specs.Open.{open_tells, OpenContract}
-use Rattle.kept_spec.specs.Step.{StepCall, step_verdict, StepResult}
+use Rattle.kept_spec.specs.declared.Stepped.{Stepped}
+use Rattle.kept_spec.specs.Open.{OpenContract}
+use Rattle.kept_spec.specs.Step.{StepCall, step_verdict}
 use Rattle.kept_spec.specs.Run.{Run}
 use Rattle.kept_spec.specs.Account.{Event, Standing, told, Accepts, balance_after, Promised, Moves, book_after_step, Account}
 use Rattle.kept_spec.specs.BookRun.{StartEvent, StartPromised, Act, step_in, steps_in, Ledger, standing_of, ledger, Lent, length_after, LedgerMoves, recorded_by, book_by, book_after, BookAccount}
@@ -49,7 +49,7 @@ lent_same (Lent.elsewhere h) e = refl
 
 -- ---- one move
 
-abbrev pub BalanceIs : Answered StepResult → Standing → Standing → Type 0
+abbrev pub BalanceIs : Answered Stepped → Standing → Standing → Type 0
 BalanceIs a s t = t.balance ≡ balance_after a s.balance
 
 pub moves-promised : {s t : Standing} {e : Event} → Moves s e t → Promised e
@@ -60,9 +60,9 @@ pub moves-balance : {s t : Standing} {e : Event} → Moves s e t → BalanceIs (
 moves-balance (Moves.lent before rest p part w) = refl
 moves-balance {s} {e = e} (Moves.elsewhere p h) = by-told (told e) h
   where
-    by-told : (a : Answered StepResult) → (Accepts a → ⊥) → BalanceIs a s s
-    by-told (accepted r) h = absurd (h tt)
-    by-told (refused number place) h = refl
+    by-told : (a : Answered Stepped) → (Accepts a → ⊥) → BalanceIs a s s
+    by-told (Ok r) h = absurd (h tt)
+    by-told (Err r) h = refl
 
 -- the buffer has a book that closes with the total standing
 pub record Booking (s : Ledger) (B : Book) : Type 0 where
@@ -76,7 +76,7 @@ module _ (s : Ledger) (e : Event) (t : Standing) (left : List ℕ) (B : Book) (b
   c = e.call
 
   book-accepted :
-      (r : StepResult) → told e ≡ accepted r → (c.book ≡ s.book) × (left ≡ e.book) → c.length ≡ s.length → t.balance ≡ r.balance
+      (r : Stepped) → told e ≡ Ok r → (c.book ≡ s.book) × (left ≡ e.book) → c.length ≡ s.length → t.balance ≡ r.balance
       → Booking (ledger t left r.length) (add B (entry c.source r.repair.outcome r.balance.total))
   book-accepted r q u l z =
       let f = (accepted-facts e p r q).filed in
@@ -103,14 +103,14 @@ steps-booking :
 steps-booking {s} {e} {t} {left} B b m k l = by-told (told e) refl k l (moves-balance m)
   where
     by-told :
-        (a : Answered StepResult) → told e ≡ a → Lent s.book e.call.book e.book (Accepts a) left → (Accepts a → e.call.length ≡ s.length)
+        (a : Answered Stepped) → told e ≡ a → Lent s.book e.call.book e.book (Accepts a) left → (Accepts a → e.call.length ≡ s.length)
         → BalanceIs a (standing_of s) t → Booking (ledger t left (length_after a s.length)) (recorded_by a e.call.source B)
-    by-told (accepted r) q k l z = book-accepted s e t left B b (moves-promised m) r q (lent-accepted k tt) (l tt) z
-    by-told (refused number place) q k l z = book-refused s e t left B b (moves-promised m) (lent_same k (refused-keeps e (moves-promised m) number place q).1.1) z
+    by-told (Ok r) q k l z = book-accepted s e t left B b (moves-promised m) r q (lent-accepted k tt) (l tt) z
+    by-told (Err r) q k l z = book-refused s e t left B b (moves-promised m) (lent_same k (refused-keeps e (moves-promised m) r.number r.place q).1.1) z
 
 -- a start in any state leaves a book without records
 starts-booking :
-    (s : Ledger) {e : StartEvent} {l : ℕ} → StartPromised e → book_start_tells e.answer ≡ accepted l → e.total ≡ s.balance.total
+    (s : Ledger) {e : StartEvent} {l : ℕ} → StartPromised e → e.answer ≡ Ok l → e.total ≡ s.balance.total
     → Booking (ledger (standing_of s) e.left l) (book e.total [])
 starts-booking s {e} {l} p q u =
     let f = (book-start-accepts e.total e.buffer).0 (answered-accepted (book_start_verdict e.total e.buffer) l 512 (sym q ∙ p.answers)).0 in
@@ -142,7 +142,7 @@ book-from-start {s} {e = e} (Run.step (LedgerMoves.starts p q u) r) = run-bookin
 
 -- THE theorem with a book: demand 3 of the steps, and the account of the book
 pub book-demand3 :
-    (opened : List ℕ) (k : ℕ) (answer : Opened) (opening : Balance) → OpenContract opened k answer → open_tells answer ≡ accepted opening
+    (opened : List ℕ) (k : ℕ) (answer : Answered Balance) (opening : Balance) → OpenContract opened k answer → answer ≡ Ok opening
     → (buffer : List ℕ) (l : ℕ) (acts : List Act) (end : Ledger) → Run LedgerMoves (ledger (record { kept = opened; balance = opening }) buffer l) acts end
     → Account opening (steps_in acts) (standing_of end)
     × ((before rest : List Act) (e : StartEvent) → acts ≡ before ++ (Act.starts e ∷ rest) → BookAccount (book_after rest (book e.total [])) end)
@@ -169,19 +169,19 @@ ledger-always-moves s e p k b d l =
 
 module _ (s : Ledger) (B : Book) (b : Booking s B) where
   -- lent what stands, a step is refused as its other checks refuse it; else it is accepted, and refused with 21 if the book is full
-  module _ (c : StepCall) (z : c.balance ≡ s.balance) (d : c.book ≡ s.book) (l : c.length ≡ s.length) (others : first (before_book c []) ≡ Pass) where
+  module _ (c : StepCall) (z : c.balance ≡ s.balance) (d : c.book ≡ s.book) (l : c.length ≡ s.length) (others : first (before_book c []) ≡ Ok tt) where
     held : HasBook c.book c.length B
     held = subst (λ x. HasBook c.book x B) (sym l) (subst (λ x. HasBook x s.length B) (sym d) b.held)
 
     full-or-not : step_verdict c ≡ check_full B
     full-or-not = lent-verdict c B held (b.closes ∙ ap (λ x. x.total) (sym z)) ∙ sym (on others refl)
 
-    pub goes_on : count B ≤ 2623 → step_verdict c ≡ Pass
+    pub goes_on : count B ≤ 2623 → step_verdict c ≡ Ok tt
     goes_on h = full-or-not ∙ (full-decides B).passes.1 (omega arith)
 
-    pub full-refused : count B ≡ max_entries → step_verdict c ≡ Fail 21 0
+    pub full-refused : count B ≡ max_entries → step_verdict c ≡ refused 21 0
     full-refused h = full-or-not ∙ ((full-decides B).fails 21 0).1 (refl, (refl, λ m. omega arith))
 
   -- a book that stands can be replaced, in any buffer that is long enough, by one that opens with its closing total
-  pub replaceable : (buffer : List ℕ) → max_bytes ≤ length buffer → book_start_verdict (closing B) buffer ≡ Pass
+  pub replaceable : (buffer : List ℕ) → max_bytes ≤ length buffer → book_start_verdict (closing B) buffer ≡ Ok tt
   replaceable buffer h = (book-start-accepts (closing B) buffer).1 (record { room = h; small = omega (arith, b.closes, b.small) })

@@ -2,17 +2,16 @@
 -- accepted steps, which is the total standing; the accepted steps and the balance standing are at the opening's scale; and each step has the
 -- whole tree's facts. Every event that Step's contract promises and that
 -- is lent what stands can move a run on, and for every input there is such an event. Assumes nothing.
+use Rattle.std.specs.Prelude.{Ok, Err}
 use mathlib.Core.Path.{◌≡◌, refl, sym, ◌∙◌, ap, ap₂, subst, subst⁻¹}
 use mathlib.Core.Logic.{◌⊎◌, ⊎_elim, ◌↔◌}
 use mathlib.Core.List.{List, [], ◌++◌, append-nil}
 use Prim.Native.Nat.{ℕ, ◌*◌, ◌≤◌}
 use native.Mathlib.Omega.{arith}
 use lib.IntN.{ℤ, pos, negsuc, ◌+ℤ◌, +ℤ_idr}
-use Rattle.numbers.specs.declared.Checked.{Checked}
-use Rattle.numbers.specs.declared.Checked.TheVariants.{Pass, Fail}
 use Rattle.numbers.specs.Sums.{ℕ_adds, sum_to}
 use Rattle.numbers.specs.Signed.{over}
-use Rattle.numbers.specs.Checks.{Answered, accepted, refused, answered, after, Broken}
+use Rattle.numbers.specs.Checks.{Checked, Answered, refused, answered, after, Broken}
 use Rattle.numbers.specs.Lists.{sum}
 use Rattle.numbers.proofs.PartLaws.{part-whole}
 use Rattle.numbers.proofs.CheckLaws.{answered-refused, no-pass}
@@ -24,14 +23,14 @@ use Rattle.qlt_spec.proofs.FactLaws.{reachable-sums}
 use Rattle.qlt_spec.proofs.OperationLaws.{fits-valid, safe-lows-sum, safe-highs-sum}
 use Rattle.book_spec.specs.LentBook.{grown_buffer}
 use Rattle.kept_spec.specs.declared.Balance.{Balance}
-use Rattle.kept_spec.specs.declared.Opened.{Opened}
-use Rattle.kept_spec.specs.Open.{open_tells, OpenContract}
-use Rattle.kept_spec.specs.Step.{StepCall, next, new_total, step_verdict, step_rules, StepFits, StepResult, step_result, step_answer, step_entry, Typed, MassesFit}
+use Rattle.kept_spec.specs.declared.Stepped.{Stepped}
+use Rattle.kept_spec.specs.Open.{OpenContract}
+use Rattle.kept_spec.specs.Step.{StepCall, next, new_total, step_verdict, step_rules, StepFits, step_result, step_entry, Typed, MassesFit}
 use Rattle.kept_spec.specs.Run.{Run, sum_of, Sound}
 use Rattle.kept_spec.specs.Account.{Event, Standing, told, Accepts, ForTotal, balance_after, gain_by, gain, Promised, Moves, Reachable, StepFacts, AtScale, Account}
 use Rattle.kept_spec.proofs.RunLaws.{run-keeps, run-gains, run-facts, all_map}
 use Rattle.kept_spec.proofs.OpenLaws.{opened-balance}
-use Rattle.kept_spec.proofs.StepLaws.{step-accepts, step-refuses, Past, refused-for-total, answer-tells, accepted-sum, accepted-facts, refused-keeps, step-account}
+use Rattle.kept_spec.proofs.StepLaws.{step-accepts, step-refuses, Past, refused-for-total, accepted-sum, accepted-facts, refused-keeps, step-account}
 
 -- ---- which calls are accepted
 
@@ -73,26 +72,26 @@ module _ (c : StepCall) where
       }
 
   -- accepted exactly if it fits, refused with a number at a place exactly if that rule is broken there after those before it
-  accepts-means : (x : StepResult) (v : Checked) → step_verdict c ≡ v → Accepts (answered v x) ↔ StepFits c
-  accepts-means x Pass e = (λ a. (step-accepts c).0 e, λ f. tt)
-  accepts-means x (Fail number place) e = (λ a. absurd a, λ f. no-pass ((step-accepts c).1 f) e)
+  accepts-means : (x : Stepped) (v : Checked) → step_verdict c ≡ v → Accepts (answered v x) ↔ StepFits c
+  accepts-means x (Ok tt) e = (λ a. (step-accepts c).0 e, λ f. tt)
+  accepts-means x (Err r) e = (λ a. absurd a, λ f. no-pass ((step-accepts c).1 f) e)
 
-  refuses-means : (x : StepResult) (v : Checked) → step_verdict c ≡ v → (number place : ℕ) → (answered v x ≡ refused number place) ↔ Broken (step_rules c) number place
+  refuses-means : (x : Stepped) (v : Checked) → step_verdict c ≡ v → (number place : ℕ) → (answered v x ≡ refused number place) ↔ Broken (step_rules c) number place
   refuses-means x v e number place = (
     λ t. (step-refuses c number place).0 (e ∙ answered-refused v x number place (sym t)),
     λ b. ap (λ w. answered w x) (sym e ∙ (step-refuses c number place).1 b),
   )
 
   -- accepted, or refused with 13 or 8: accepted exactly if it can be reached
-  abbrev Decided : Answered StepResult → Type 0
+  abbrev Decided : Answered Stepped → Type 0
   Decided a = Accepts a ⊎ ForTotal a → Accepts a ↔ Reachable c
 
-  decided : (x : StepResult) (v : Checked) → step_verdict c ≡ v → Decided (answered v x)
-  decided x Pass e o = (λ a. fits-reachable ((step-accepts c).0 e).masses, λ t. tt)
-  decided x (Fail number place) e o = (λ a. absurd a, λ t. refusal.1 (reachable-fits refusal.0 t))
+  decided : (x : Stepped) (v : Checked) → step_verdict c ≡ v → Decided (answered v x)
+  decided x (Ok tt) e o = (λ a. fits-reachable ((step-accepts c).0 e).masses, λ t. tt)
+  decided x (Err r) e o = (λ a. absurd a, λ t. refusal.1 (reachable-fits refusal.0 t))
     where
       refusal : Past c × (MassesFit c → ⊥)
-      refusal = refused-for-total c number place e (⊎_elim (λ a. absurd a) (λ n. n) o)
+      refusal = refused-for-total c r.number r.place e (⊎_elim (λ a. absurd a) (λ n. n) o)
 
 -- ---- one event
 
@@ -136,19 +135,19 @@ pub record EventFacts (k : ℕ) (e : Event) : Type 0 where
   pub step : StepFacts e
   pub at-scale : AtScale k e
 
-no-gain : (a : Answered StepResult) (z : ℤ) → (Accepts a → ⊥) → gain_by a z ≡ pos 0
-no-gain (accepted r) z h = absurd (h tt)
-no-gain (refused number place) z h = refl
+no-gain : (a : Answered Stepped) (z : ℤ) → (Accepts a → ⊥) → gain_by a z ≡ pos 0
+no-gain (Ok r) z h = absurd (h tt)
+no-gain (Err r) z h = refl
 
 module _ (s : Standing) (e : Event) (before rest : List ℕ) (p : Promised e) (part : s.kept ≡ before ++ (e.call.kept ++ rest)) (whole : Accepts (told e) → (e.call.kept ≡ s.kept) × (e.call.balance ≡ s.balance)) where
   lent-adds-up : sum s.kept ≡ s.balance.total → sum (before ++ (e.kept ++ rest)) ≡ (balance_after (told e) s.balance).total
   lent-adds-up b = by-told (told e) refl whole
     where
       by-told :
-          (a : Answered StepResult) → told e ≡ a → (Accepts a → (e.call.kept ≡ s.kept) × (e.call.balance ≡ s.balance))
+          (a : Answered Stepped) → told e ≡ a → (Accepts a → (e.call.kept ≡ s.kept) × (e.call.balance ≡ s.balance))
           → sum (before ++ (e.kept ++ rest)) ≡ (balance_after a s.balance).total
-      by-told (accepted r) t w = ap sum (lent-whole s e before rest p part (w tt).0) ∙ accepted-sum e p r t
-      by-told (refused number place) t w = ap sum (lent_same s e before rest p part number place t) ∙ b
+      by-told (Ok r) t w = ap sum (lent-whole s e before rest p part (w tt).0) ∙ accepted-sum e p r t
+      by-told (Err r) t w = ap sum (lent_same s e before rest p part r.number r.place t) ∙ b
 
   -- accepted, it names the scale of the balance given, which is the one standing
   lent-scale : AtScale s.balance.scale e
@@ -157,21 +156,21 @@ module _ (s : Standing) (e : Event) (before rest : List ℕ) (p : Promised e) (p
   lent-keeps-scale : (balance_after (told e) s.balance).scale ≡ s.balance.scale
   lent-keeps-scale = by-told (told e) refl lent-scale
     where
-      by-told : (a : Answered StepResult) → told e ≡ a → (Accepts a → e.call.scale ≡ s.balance.scale) → (balance_after a s.balance).scale ≡ s.balance.scale
-      by-told (accepted r) t w = (accepted-facts e p r t).scale ∙ w tt
-      by-told (refused number place) t w = refl
+      by-told : (a : Answered Stepped) → told e ≡ a → (Accepts a → e.call.scale ≡ s.balance.scale) → (balance_after a s.balance).scale ≡ s.balance.scale
+      by-told (Ok r) t w = (accepted-facts e p r t).scale ∙ w tt
+      by-told (Err r) t w = refl
 
   lent-gains : pos (sum (before ++ (e.kept ++ rest))) ≡ worth s +ℤ gain e
   lent-gains = by-told (told e) refl whole
     where
       by-told :
-          (a : Answered StepResult) → told e ≡ a → (Accepts a → (e.call.kept ≡ s.kept) × (e.call.balance ≡ s.balance))
+          (a : Answered Stepped) → told e ≡ a → (Accepts a → (e.call.kept ≡ s.kept) × (e.call.balance ≡ s.balance))
           → pos (sum (before ++ (e.kept ++ rest))) ≡ worth s +ℤ gain_by a e.call.source
-      by-told (accepted r) t w =
+      by-told (Ok r) t w =
           ap (λ l. pos (sum l)) (lent-whole s e before rest p part (w tt).0)
           ∙ step-account e p
           ∙ ap₂ (λ l g. pos (sum l) +ℤ g) (w tt).0 (ap (λ x. gain_by x e.call.source) t)
-      by-told (refused number place) t w = ap (λ l. pos (sum l)) (lent_same s e before rest p part number place t) ∙ sym (+ℤ_idr (worth s))
+      by-told (Err r) t w = ap (λ l. pos (sum l)) (lent_same s e before rest p part r.number r.place t) ∙ sym (+ℤ_idr (worth s))
 
 module _ {k : ℕ} where
   moves-keeps : {s t : Standing} {e : Event} → Balanced k s → Moves s e t → Balanced k t
@@ -196,7 +195,7 @@ module _ {k : ℕ} where
 
 -- THE theorem
 pub demand3 :
-    (opened : List ℕ) (k : ℕ) (answer : Opened) (opening : Balance) → OpenContract opened k answer → open_tells answer ≡ accepted opening
+    (opened : List ℕ) (k : ℕ) (answer : Answered Balance) (opening : Balance) → OpenContract opened k answer → answer ≡ Ok opening
     → (es : List Event) (end : Standing) → Run Moves (record { kept = opened; balance = opening }) es end → Account opening es end
 demand3 opened k answer opening p t es end r =
     let b : Balanced opening.scale (record { kept = opened; balance = opening }) =
@@ -226,7 +225,7 @@ pub promised : (c : StepCall) → Typed c → (e : Event) × ((e.call ≡ c) × 
 promised c y = (
   record {
     call = c;
-    answer = step_answer (answered (step_verdict c) (step_result c));
+    answer = answered (step_verdict c) (step_result c);
     kept = after (step_verdict c) (tree_masses (field c.lists) (new_total c)) c.kept;
     scratch = after (step_verdict c) (cleared (scratch_per_node * nodes c.lists) c.scratch) c.scratch;
     book = after (step_verdict c) (grown_buffer c.book c.length (step_entry c)) c.book;
@@ -235,7 +234,7 @@ promised c y = (
     refl,
     record {
       typed = y;
-      tells = record { answers = answer-tells (answered (step_verdict c) (step_result c)); leaves = record { writes = refl; clears = refl } };
+      tells = record { answers = refl; leaves = record { writes = refl; clears = refl } };
       files = refl;
     },
   ),

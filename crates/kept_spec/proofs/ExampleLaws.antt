@@ -1,5 +1,6 @@
 -- The concrete run of specs/Example.antt is a run, after an opening that is accepted: the checks of masses, and what they give, hold by computing; the
 -- book's bytes are not computed, they are there by the laws of books. Assumes nothing.
+use Rattle.std.specs.Prelude.{Ok}
 use mathlib.Core.Path.{◌≡◌, refl, sym, ◌∙◌, ap, ap₂, subst}
 use mathlib.Core.List.{List, [], ◌∷◌, ◌++◌, append-nil, map}
 use Prim.Native.Nat.{ℕ, zero, suc, ◌*◌, ◌^◌, ◌≤◌, ◌<◌}
@@ -7,12 +8,11 @@ use native.Mathlib.Omega.{arith}
 use lib.IntN.{pos, negsuc, ◌+ℤ◌, +ℤ_idr}
 use lib.Signed.{◌≤ℤ◌, le_z_yes}
 use lib.ListN.{length, replicate, length-replicate, get_or-replicate}
-use Rattle.numbers.specs.declared.Checked.TheVariants.{Fail}
 use Rattle.numbers.specs.Sums.{sum_to}
 use Rattle.numbers.specs.Lists.{All, list_to, written}
 use Rattle.numbers.specs.Signed.{min_ℤ, max_ℤ}
 use Rattle.numbers.specs.Quota.{quota}
-use Rattle.numbers.specs.Checks.{each_from, first_from, check_count, check_scale, check_total, answered, after, max_total}
+use Rattle.numbers.specs.Checks.{refused, each_from, first_from, check_count, check_scale, check_total, answered, after, max_total}
 use Rattle.caas_spec.specs.Split.{clip, clipped, deficit, capacity, portion, first_share, remainder, left, second_share, shares, result}
 use Rattle.qlt_spec.specs.Tree.{leads, child_of, any_child, node_sum, parent_ok, node_ok, mass_from, mass_at}
 use Rattle.qlt_spec.specs.Field.{outcome, outcome_number, low_in, high_in, change_of}
@@ -21,14 +21,12 @@ use Rattle.qlt_spec.specs.Checks.{check_nodes, check_lists, check_tree, bounds_o
 use Rattle.qlt_spec.specs.Operation.{repair, cleared}
 use Rattle.blocks.specs.Words.{Bytes}
 use Rattle.book_spec.specs.Book.{Entry, entry, unused, Book, book, count, entry_at, total_after, closing, add, max_entries, max_bytes, WellFormed, book_blocks}
-use Rattle.book_spec.specs.StartBook.{book_start_tells}
 use Rattle.book_spec.specs.LentBook.{HasBook}
 use Rattle.book_spec.proofs.HeldLaws.{has-written, has-read}
 use Rattle.book_spec.proofs.AddLaws.{add-closing}
 use Rattle.book_spec.proofs.StartLaws.{empty-formed, empty-closing, book-start-accepts}
-use Rattle.kept_spec.specs.declared.Opened.TheVariants.{Accepted}
-use Rattle.kept_spec.specs.Open.{open_verdict, open_tells, OpenContract}
-use Rattle.kept_spec.specs.Step.{StepCall, Typed, check_same_scale, check_kept, step_verdict, step_tells}
+use Rattle.kept_spec.specs.Open.{open_verdict, OpenContract}
+use Rattle.kept_spec.specs.Step.{StepCall, Typed, check_same_scale, check_kept, step_verdict}
 use Rattle.kept_spec.specs.Run.{Run, collect}
 use Rattle.kept_spec.specs.Account.{Promised, Moves, Account}
 use Rattle.kept_spec.specs.BookRun.{StartEvent, StartPromised, Act, ledger, Lent, LedgerMoves, book_after, BookAccount}
@@ -64,12 +62,12 @@ typed c h least most = record { bytes = h.bytes; least = least; most = most }
 
 -- ---- the opening, and the start of a book
 
-pub opens : OpenContract (3 ∷ 5 ∷ []) 20 (Accepted begin.balance)
-unfolding sum_to check_count check_scale check_total open_verdict open_tells
+pub opens : OpenContract (3 ∷ 5 ∷ []) 20 (Ok begin.balance)
+unfolding sum_to check_count check_scale check_total open_verdict
 opens = record { answers = refl }
 
 pub book-starts : (total : ℕ) → total ≤ max_total → StartPromised (book_start total)
-unfolding book_start_tells buffered
+unfolding buffered
 book-starts total h =
     let e = (book-start-accepts total zeros).1 (record { room = zeros-room; small = h }) in
     record { typed = zeros-bytes; answers = ap (λ v. answered v 512) (sym e); writes = ap (λ v. after v (lent_book total) zeros) (sym e) }
@@ -84,7 +82,6 @@ held_start = lent_book-held 8 (omega arith)
 
 -- the first then leaves a buffer that has its record
 held_first : Promised first_call → HasBook one_record 512 (book 8 (first_entry ∷ []))
-unfolding step_tells
 held_first p = subst (λ B. HasBook one_record 512 (add B first_entry)) (has-read held_start) (accepted-facts first_call p _ refl).filed.left
 
 -- the refused ones whatever their book
@@ -115,7 +112,6 @@ whole stands left {A} = subst (λ t. Lent stands stands left A t) (append-nil le
 
 -- the refused calls were lent the whole list of masses, a part of it, or none of it, and the whole buffer or another one
 runs : All Promised events → Run LedgerMoves begin_ledger acts last_ledger
-unfolding step_tells book_start_tells
 runs (All.more a (All.more b (All.more c (All.more d (All.more e (All.more f (All.more g (All.more h All.none)))))))) =
     Run.step (LedgerMoves.starts starts refl refl)
     (Run.step (LedgerMoves.steps (Moves.lent [] [] a refl (λ x. (refl, refl))) (whole (lent_book 8) one_record) (λ x. refl))
@@ -139,14 +135,14 @@ example = ledger-run example-ledger
 accounts :
     Account begin.balance events last
     × ((before rest : List Act) (e : StartEvent) → acts ≡ before ++ (Act.starts e ∷ rest) → BookAccount (book_after rest (book e.total [])) last_ledger)
-unfolding open_tells collect
-accounts = book-demand3 (3 ∷ 5 ∷ []) 20 (Accepted begin.balance) begin.balance opens refl zeros 0 acts last_ledger example-ledger
+unfolding collect
+accounts = book-demand3 (3 ∷ 5 ∷ []) 20 (Ok begin.balance) begin.balance opens refl zeros 0 acts last_ledger example-ledger
 
 pub example-account : Account begin.balance events last
 example-account = accounts.0
 
 pub example-book : BookAccount (book 8 (first_entry ∷ eighth_entry ∷ [])) last_ledger
-unfolding book_after step_tells
+unfolding book_after
 example-book = accounts.1 [] (map Act.steps events) start_call refl
 
 -- ---- a call more, with a full book
@@ -197,7 +193,7 @@ full-booking =
     }
 
 -- every other check passes
-pub full-example : step_verdict full_call ≡ Fail 21 0
+pub full-example : step_verdict full_call ≡ refused 21 0
 unfolding sum_to each_from first_from check_count leads child_of any_child node_sum parent_ok node_ok check_nodes check_lists check_tree bounds_ordered check_order
     check_sum check_reach check_shape check_values check_total check_same_scale check_kept
 full-example =

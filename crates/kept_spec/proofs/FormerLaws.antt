@@ -7,9 +7,7 @@ use native.Mathlib.Omega.{arith}
 use lib.Dec.{leb}
 use lib.IntN.{ℤ}
 use lib.ListN.{length}
-use Rattle.numbers.specs.declared.Checked.{Checked}
-use Rattle.numbers.specs.declared.Checked.TheVariants.{Fail}
-use Rattle.numbers.specs.Checks.{first, after, check_total}
+use Rattle.numbers.specs.Checks.{Checked, Answered, refused, first, after, check_total}
 use Rattle.qlt_spec.specs.Field.{Lists, nodes, scratch_per_node}
 use Rattle.qlt_spec.specs.Checks.{check_values, check_reach}
 use Rattle.qlt_spec.specs.Operation.{ShapeFits, cleared}
@@ -23,7 +21,6 @@ use Rattle.kept_spec.specs.declared.Stepped.{Stepped}
 use Rattle.kept_spec.specs.Step.{StepCall, step_call, next, new_total, check_same_scale, check_kept, step_verdict, StepContract, step_entry}
 use Rattle.kept_spec.specs.Account.{Event, Promised}
 use Rattle.kept_spec.specs.Former.{former_step_verdict, FormerStepContract}
-use Rattle.kept_spec.proofs.StepLaws.{step-tells-injective}
 
 -- the checks of a step after 1 to 3
 abbrev later : Balance → List ℕ → ℤ → ℕ → Lists → List ℤ → List ℕ → ℕ → List Checked
@@ -53,16 +50,16 @@ module _ (b : Balance) (kept : List ℕ) (source : ℤ) (scale : ℕ) (f : Lists
   module _ (enough : former_per_node * nodes f ≤ length s) (enough' : scratch_per_node * nodes f ≤ length s') where
     -- the same answer, so the same balance, outcome, change, sum shared out, length of the book or refusal, and the same kept masses and book
     pub former-step-agrees :
-        (answer answer' : Stepped) {y y' : List ℕ} {t t' : List ℤ} {k k' : List ℕ}
+        (answer answer' : Answered Stepped) {y y' : List ℕ} {t t' : List ℤ} {k k' : List ℕ}
         → FormerStepContract (given s) answer y t k → StepContract (given s') answer' y' t' k' → (answer ≡ answer') × ((y ≡ y') × (k ≡ k'))
     former-step-agrees answer answer' p q =
         let e = former-step-by (both-enough f enough enough') in
         let r = tells-agree e p.tells q.tells in
-        (step-tells-injective answer answer' r.0, (r.1, p.files ∙ ap (λ v. after v (grown_buffer book l (step_entry (given s))) book) e ∙ sym q.files))
+        (r.0, (r.1, p.files ∙ ap (λ v. after v (grown_buffer book l (step_entry (given s))) book) e ∙ sym q.files))
 
     -- what this version answers and keeps, the former one does
     pub former-step-holds :
-        (answer : Stepped) {y : List ℕ} {t : List ℤ} {k : List ℕ} → StepContract (given s') answer y t k
+        (answer : Answered Stepped) {y : List ℕ} {t : List ℤ} {k : List ℕ} → StepContract (given s') answer y t k
         → FormerStepContract (given s) answer y (after (former_step_verdict (given s)) (cleared (former_per_node * nodes f) s) s) k
     former-step-holds answer q =
         let e = former-step-by (both-enough f enough enough') in
@@ -80,7 +77,7 @@ former-step-verdict c h =
 -- where this version finds enough scratch and the former one too little, that one refuses with 3
 pub former-step-refuses :
     (c : StepCall) → ShapeFits c.lists (length c.kept) (length c.scratch) → length c.scratch < former_per_node * nodes c.lists
-    → former_step_verdict c ≡ Fail 3 0
+    → former_step_verdict c ≡ refused 3 0
 unfolding former_step_verdict
 former-step-refuses c h l =
     ap (λ v. first (v ∷ later c.balance c.kept c.source c.scale c.lists c.scratch c.book c.length))

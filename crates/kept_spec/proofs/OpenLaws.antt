@@ -1,4 +1,5 @@
--- What Open's verdict means, and that an answer tells its verdict and the balance and nothing else. Assumes nothing.
+-- What Open's verdict means, and what an accepted opening gives. Assumes nothing.
+use Rattle.std.specs.Prelude.{Ok}
 use mathlib.Core.Path.{◌≡◌, refl, sym, ◌∙◌, subst}
 use mathlib.Core.Logic.{◌↔◌}
 use mathlib.Core.List.{List, [], ◌∷◌, ◌++◌}
@@ -6,18 +7,13 @@ use Prim.Native.Nat.{ℕ}
 use native.Mathlib.Omega.{arith}
 use lib.IntN.{pos}
 use lib.ListN.{length}
-use Rattle.numbers.specs.declared.Checked.{Checked}
-use Rattle.numbers.specs.declared.Checked.TheVariants.{Pass, Fail}
-use Rattle.numbers.specs.Checks.{Answered, accepted, refused, first, check_total, Rule, total_rule, DecidesAll, Holds, Broken, RefuseWith, Extends}
-use Rattle.numbers.proofs.TestLaws.{injective}
+use Rattle.numbers.specs.Checks.{Checked, Answered, refused, first, check_total, Rule, total_rule, DecidesAll, Holds, Broken, RefuseWith, Extends}
 use Rattle.numbers.proofs.SignedLaws.{le_parts, parts-le}
 use Rattle.numbers.proofs.CheckLaws.{first-append, answered-accepted, decides-then, decides-none, decides-append, count-decides, scale-decides, total-decides}
 use Rattle.numbers.proofs.ChainLaws.{extends-own, extends-pass, refuse-with}
 use Rattle.numbers.specs.Lists.{sum, All}
 use Rattle.kept_spec.specs.declared.Balance.{Balance}
-use Rattle.kept_spec.specs.declared.Opened.{Opened}
-use Rattle.kept_spec.specs.declared.Opened.TheVariants.{Accepted, Refused}
-use Rattle.kept_spec.specs.Open.{open_checks_with, open_checks, open_verdict, open_verdict_with, open_rules_with, open_rules, OpenFits, open_balance, open_tells, open_answer, OpenContract}
+use Rattle.kept_spec.specs.Open.{open_checks_with, open_checks, open_verdict, open_verdict_with, open_rules_with, open_rules, OpenFits, open_balance, OpenContract}
 
 -- ---- the verdict
 
@@ -44,20 +40,20 @@ module _ (kept : List ℕ) (k : ℕ) where
     λ f. ((f.some, f.few), (f.scale, ((parts-le (omega arith), parts-le (omega (arith, f.small))), tt))),
   )
 
-  pub open-accepts : (open_verdict kept k ≡ Pass) ↔ OpenFits kept k
+  pub open-accepts : (open_verdict kept k ≡ Ok tt) ↔ OpenFits kept k
   open-accepts = (λ e. rules-fit.0 (open-decides.passes.0 e), λ f. open-decides.passes.1 (rules-fit.1 f))
 
-  pub open-refuses : (number place : ℕ) → (open_verdict kept k ≡ Fail number place) ↔ Broken (open_rules kept k) number place
+  pub open-refuses : (number place : ℕ) → (open_verdict kept k ≡ refused number place) ↔ Broken (open_rules kept k) number place
   open-refuses = open-decides.fails
 
   -- with checks put in, the chain is Open's extended by them
   pub open-extends :
-      {Put : ℕ → Type 0} (own : List Checked) → All (λ v. (number place : ℕ) → v ≡ Fail number place → Put number) own
+      {Put : ℕ → Type 0} (own : List Checked) → All (λ v. (number place : ℕ) → v ≡ refused number place → Put number) own
       → Extends Put (open_checks_with own kept k) (open_checks kept k)
   open-extends own h = Extends.shared (Extends.shared (extends-own own h (Extends.shared Extends.end)))
 
   -- so where it passes, Open fits
-  pub open-with-fits : (own : Checked) → open_verdict_with (own ∷ []) kept k ≡ Pass → OpenFits kept k
+  pub open-with-fits : (own : Checked) → open_verdict_with (own ∷ []) kept k ≡ Ok tt → OpenFits kept k
   unfolding open_verdict_with open_verdict
   open-with-fits own e = open-accepts.0 (extends-pass (open-extends {Put = λ n. Unit} (own ∷ []) (All.more (λ n p q. tt) All.none)) e)
 
@@ -67,23 +63,7 @@ module _ (kept : List ℕ) (k : ℕ) where
   open-numbers = refuse-with (open_rules kept k) _ refl refl
 
   -- from the contract alone: an accepted opening fits, and gives the sum of the masses at the scale named
-  pub opened-balance : (a : Opened) (b : Balance) → OpenContract kept k a → open_tells a ≡ accepted b → OpenFits kept k × (b ≡ open_balance kept k)
+  pub opened-balance : (a : Answered Balance) (b : Balance) → OpenContract kept k a → a ≡ Ok b → OpenFits kept k × (b ≡ open_balance kept k)
   opened-balance a b p t =
       let z = answered-accepted (open_verdict kept k) b (open_balance kept k) (sym t ∙ p.answers) in
       (open-accepts.0 z.0, z.1)
-
--- ---- the answer
-
-pub open-answer-tells : (a : Answered Balance) → open_tells (open_answer a) ≡ a
-unfolding open_tells
-open-answer-tells (accepted b) = refl
-open-answer-tells (refused number place) = refl
-
--- what an answer tells is the answer
-pub open-tells-injective : (a b : Opened) → open_tells a ≡ open_tells b → a ≡ b
-unfolding open_tells
-open-tells-injective = injective open_answer back
-  where
-    back : (a : Opened) → open_answer (open_tells a) ≡ a
-    back (Accepted b) = refl
-    back (Refused number place) = refl

@@ -1,15 +1,14 @@
 -- Edits stay in their region, of Step: two steps with fields that differ only below v tell the same and leave the same masses outside v, and the
 -- same book, from their contracts alone. Assumes nothing.
+use Rattle.std.specs.Prelude.{Ok}
 use mathlib.Core.Path.{◌≡◌, refl, sym, ◌∙◌, ap, ap₂, subst}
 use mathlib.Core.List.{List, [], ◌∷◌, ◌++◌}
 use Prim.Native.Nat.{ℕ}
 use lib.Dec.{eqb}
 use lib.IntN.{ℤ, pos, ◌+ℤ◌}
 use lib.ListN.{length}
-use Rattle.numbers.specs.declared.Checked.{Checked}
-use Rattle.numbers.specs.declared.Checked.TheVariants.{Pass}
 use Rattle.numbers.specs.Signed.{over}
-use Rattle.numbers.specs.Checks.{after, unless, first, check_total}
+use Rattle.numbers.specs.Checks.{Checked, Answered, after, unless, first, check_total}
 use Rattle.qlt_spec.specs.Field.{field, outcome, outcome_number}
 use Rattle.qlt_spec.specs.Facts.{FieldFacts}
 use Rattle.qlt_spec.specs.Checks.{shape_of, check_values, check_reach}
@@ -21,7 +20,7 @@ use Rattle.book_spec.specs.StartBook.{check_buffer}
 use Rattle.book_spec.specs.LentBook.{lent_checks, grown_buffer, grown_length}
 use Rattle.book_spec.specs.Book.{entry}
 use Rattle.kept_spec.specs.declared.Stepped.{Stepped}
-use Rattle.kept_spec.specs.Step.{StepCall, next, new_total, repair_call, check_same_scale, check_kept, step_verdict, step_verdict_with, step_result, step_entry, step_tells, StepBy, StepContract}
+use Rattle.kept_spec.specs.Step.{StepCall, next, new_total, repair_call, check_same_scale, check_kept, step_verdict, step_verdict_with, step_result, step_entry, StepBy, StepContract}
 use Rattle.kept_spec.specs.Region.{EditedStep, SameStepped, SameSteps}
 use Rattle.kept_spec.proofs.StepLaws.{step-accepts, fits-repair}
 
@@ -77,15 +76,15 @@ module _ (c d : StepCall) {v : ℕ} (h : EditedStep c d v) where
 
   -- by one verdict of both, of Step or of an operation that steps
   pub steps-same :
-      {w u : Checked} (a b : Stepped) {xs ys book book' : List ℕ} {scratch scratch' : List ℤ} → w ≡ u → (w ≡ Pass → ReconstructFits (repair_call c))
-      → StepBy w c a xs scratch book → StepBy u d b ys scratch' book' → SameSteps (field c.lists) v (step_tells a) (step_tells b) xs ys book book'
+      {w u : Checked} (a b : Answered Stepped) {xs ys book book' : List ℕ} {scratch scratch' : List ℤ} → w ≡ u → (w ≡ Ok tt → ReconstructFits (repair_call c))
+      → StepBy w c a xs scratch book → StepBy u d b ys scratch' book' → SameSteps (field c.lists) v a b xs ys book book'
   steps-same {w} {u} a b {xs} {ys} e fits p q =
       record {
         told = told_same (step_result c) (step_result d) e p.tells.answers q.tells.answers same;
         books = p.files ∙ (λ i. after (e i) (grown_buffer (h.book i) (h.length i) (entry-same i)) (h.book i)) ∙ sym q.files;
       }
     where
-      same : w ≡ Pass → SameStepped (field c.lists) v xs ys (step_result c) (step_result d)
+      same : w ≡ Ok tt → SameStepped (field c.lists) v xs ys (step_result c) (step_result d)
       same z =
           record {
             repair =
@@ -98,7 +97,7 @@ module _ (c d : StepCall) {v : ℕ} (h : EditedStep c d v) where
 
   -- the claim, of Step
   pub step-region :
-      (a b : Stepped) {xs ys book book' : List ℕ} {scratch scratch' : List ℤ}
-      → StepContract c a xs scratch book → StepContract d b ys scratch' book' → SameSteps (field c.lists) v (step_tells a) (step_tells b) xs ys book book'
+      (a b : Answered Stepped) {xs ys book book' : List ℕ} {scratch scratch' : List ℤ}
+      → StepContract c a xs scratch book → StepContract d b ys scratch' book' → SameSteps (field c.lists) v a b xs ys book book'
   unfolding step_verdict step_verdict_with
   step-region a b p q = steps-same a b (step-verdict-same {own = []} refl) (λ e. fits-repair c ((step-accepts c).0 e)) p q

@@ -1,16 +1,17 @@
 -- Edits stay in their region, of two runs that hand on a book: where each pair of steps is lent what stands in its run, and the one's field is the
 -- other's edited below a node, masses of cells outside these nodes, balance and book stay the same. Assumes nothing.
+use Rattle.std.specs.Prelude.{Ok, Err}
 use mathlib.Core.Path.{◌≡◌, refl, sym, ◌∙◌, ap, subst}
 use mathlib.Core.List.{List, []}
 use Prim.Native.Nat.{ℕ}
 use Rattle.numbers.specs.Lists.{at, sum, written}
-use Rattle.numbers.specs.Checks.{Answered, accepted, refused, after}
+use Rattle.numbers.specs.Checks.{Answered, after}
 use Rattle.numbers.proofs.CheckLaws.{answered-accepted}
 use Rattle.qlt_spec.specs.Field.{field}
 use Rattle.qlt_spec.specs.Region.{SameTold, both_accepted, both_refused}
 use Rattle.book_spec.specs.Book.{book, book_bytes}
-use Rattle.book_spec.specs.StartBook.{book_start_verdict, book_start_tells}
-use Rattle.kept_spec.specs.Step.{StepResult}
+use Rattle.book_spec.specs.StartBook.{book_start_verdict}
+use Rattle.kept_spec.specs.declared.Stepped.{Stepped}
 use Rattle.kept_spec.specs.Run.{Run}
 use Rattle.kept_spec.specs.Account.{Event, Standing, told, Accepts, balance_after, Promised, Moves}
 use Rattle.kept_spec.specs.BookRun.{StartEvent, StartPromised, Act, Ledger, length_after, LedgerMoves}
@@ -23,16 +24,16 @@ use Rattle.kept_spec.proofs.RegionLaws.{step-region}
 -- ---- a step that is lent all that stands
 
 -- what stands after it, by what it told
-abbrev stands_by : Answered StepResult → Ledger → Event → Ledger
+abbrev stands_by : Answered Stepped → Ledger → Event → Ledger
 stands_by a s e = record { kept = e.kept; balance = balance_after a s.balance; book = e.book; length = length_after a s.length }
 
 -- one that is not accepted leaves its lists
 keeps : (e : Event) → Promised e → (Accepts (told e) → ⊥) → (e.kept ≡ e.call.kept) × (e.book ≡ e.call.book)
 keeps e p n = by-told (told e) refl n
   where
-    by-told : (a : Answered StepResult) → told e ≡ a → (Accepts a → ⊥) → (e.kept ≡ e.call.kept) × (e.book ≡ e.call.book)
-    by-told (accepted r) t n = absurd (n tt)
-    by-told (refused number place) t n = let k = refused-keeps e p number place t in (k.0, k.1.1)
+    by-told : (a : Answered Stepped) → told e ≡ a → (Accepts a → ⊥) → (e.kept ≡ e.call.kept) × (e.book ≡ e.call.book)
+    by-told (Ok r) t n = absurd (n tt)
+    by-told (Err r) t n = let k = refused-keeps e p r.number r.place t in (k.0, k.1.1)
 
 masses-left : {s t : Standing} {e : Event} → Moves s e t → e.call.kept ≡ s.kept → t.kept ≡ e.kept
 masses-left {s} {e = e} (Moves.lent before rest p part w) k = lent-whole s e before rest p part k
@@ -82,7 +83,7 @@ module _ {Mine : ℕ → Type 0} {s t : Ledger} (e d : Event) (h : EditedCalls M
     pair-stands = by-told refl refl pair-region.told
       where
         by-told :
-            {a b : Answered StepResult} → told e ≡ a → told d ≡ b → SameTold (SameStepped (field e.call.lists) h.node e.kept d.kept) a b
+            {a b : Answered Stepped} → told e ≡ a → told d ≡ b → SameTold (SameStepped (field e.call.lists) h.node e.kept d.kept) a b
             → SameLedgers Mine (stands_by a s e, stands_by b t d)
         by-told x y (both_accepted {x = r} {y = r'} k) =
             record {
@@ -121,7 +122,7 @@ starts-same {e = e} {d} same z (LedgerMoves.starts {l = l} p a x) (LedgerMoves.s
       length = told-length p a ∙ sym (told-length q b);
     }
   where
-    told-length : {e : StartEvent} {l : ℕ} → StartPromised e → book_start_tells e.answer ≡ accepted l → l ≡ 512
+    told-length : {e : StartEvent} {l : ℕ} → StartPromised e → e.answer ≡ Ok l → l ≡ 512
     told-length {e} {l} p a = (answered-accepted (book_start_verdict e.total e.buffer) l 512 (sym a ∙ p.answers)).1
 
 -- ---- every two runs

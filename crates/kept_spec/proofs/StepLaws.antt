@@ -1,5 +1,6 @@
--- What Step's verdict means, that a book lent along adds 21 alone, that an answer tells its verdict and its values and nothing else, and what
--- the contract alone says of one call: the facts of an accepted one, that a refused one left every list, and the account of each. Assumes nothing.
+-- What Step's verdict means, that a book lent along adds 21 alone, and what the contract alone says of one call: the facts of an accepted one,
+-- that a refused one left every list, and the account of each. Assumes nothing.
+use Rattle.std.specs.Prelude.{Ok, Err}
 use mathlib.Core.Path.{◌≡◌, refl, sym, ◌∙◌, ap, ap₂, subst}
 use mathlib.Core.Logic.{◌⊎◌, ⊎_elim, ◌↔◌}
 use mathlib.Core.Bool.{true, false}
@@ -9,16 +10,16 @@ use native.Mathlib.Omega.{arith}
 use lib.IntN.{pos, ◌+ℤ◌, +ℤ_idr}
 use lib.Signed.{◌≤ℤ◌}
 use lib.ListN.{length, drop}
-use Rattle.numbers.specs.declared.Checked.{Checked}
-use Rattle.numbers.specs.declared.Checked.TheVariants.{Pass, Fail}
 use Rattle.numbers.specs.Sums.{ℕ_adds, sum_to}
 use Rattle.numbers.specs.Lists.{at, sum, All}
-use Rattle.numbers.specs.Checks.{Answered, accepted, refused, first, both, check_total, Rule, total_rule, Decides, DecidesAll, Holds, Broken, numbers_of, Extends, max_total, OneOf, after, rule, RefuseWith}
-use Rattle.numbers.proofs.TestLaws.{eq-means, le-means, and-means, injective}
+use Rattle.numbers.specs.Checks.{Checked, Answered, refused, first, both, check_total, Rule, total_rule, Decides, DecidesAll, Holds, Broken, numbers_of, Extends, max_total, OneOf, after, rule, RefuseWith}
+use Rattle.numbers.proofs.TestLaws.{eq-means, le-means, and-means}
 use Rattle.numbers.proofs.SignedLaws.{le_parts, parts-le, from-zero-whole}
-use Rattle.numbers.proofs.CheckLaws.{first-append, decides-unless, decides-then, decides-none, decides-append, holds-append, broken-append, total-decides, both-pass, both_first, both-second, on, no-pass, long-decides, stop}
+use Rattle.numbers.proofs.CheckLaws.{first-append, decides-unless, decides-then, decides-none, decides-append, holds-append, broken-append, total-decides, both-pass, both_first, both-second, on, no-pass, long-decides, stop, refused-number}
 use Rattle.numbers.proofs.ChainLaws.{extends-own, extends-pass, extends-fail, is_one, not-broken, are-of, OneOf-is_one, one-append, numbers-append, no_number, broken-later, fails-number, Passes, pass_all, all_pass, Verdict, verdict, passed, failed, refuse-append, refuse-with}
-use Rattle.qlt_spec.specs.Field.{scratch_per_node, field, outcome_number, outcome, Outcome, attainable, below, above, nodes}
+use Rattle.qlt_spec.specs.Field.{scratch_per_node, field, outcome_number, outcome, nodes}
+use Rattle.qlt_spec.specs.declared.Outcome.{Outcome}
+use Rattle.qlt_spec.specs.declared.Outcome.TheVariants.{Attainable, Below, Above}
 use Rattle.qlt_spec.specs.Masses.{tree_masses}
 use Rattle.qlt_spec.specs.Facts.{FieldFacts}
 use Rattle.qlt_spec.specs.Checks.{shape_of, check_values, check_reach}
@@ -33,8 +34,7 @@ use Rattle.book_spec.proofs.ReportLaws.{closing-recorded}
 use Rattle.book_spec.proofs.AddLaws.{add-closing}
 use Rattle.book_spec.proofs.HeldLaws.{has-read}
 use Rattle.kept_spec.specs.declared.Stepped.{Stepped}
-use Rattle.kept_spec.specs.declared.Stepped.TheVariants.{Accepted, Refused}
-use Rattle.kept_spec.specs.Step.{StepCall, next, new_total, repair_call, check_same_scale, check_kept, step_checks_with, step_checks, step_verdict, step_verdict_with, scale_rule, kept_rule, step_rules_with, step_rules, StepFits, StepResult, step_result, step_tells, step_answer, MassesFit, StepFull, step_entry, Typed, StepContract, StepBy}
+use Rattle.kept_spec.specs.Step.{StepCall, next, new_total, repair_call, check_same_scale, check_kept, step_checks_with, step_checks, step_verdict, step_verdict_with, scale_rule, kept_rule, step_rules_with, step_rules, StepFits, step_result, MassesFit, StepFull, step_entry, Typed, StepContract, StepBy}
 use Rattle.kept_spec.specs.Account.{Event, told, Promised, AcceptedFacts, gain, gain_by, BookFacts, book_before, book_after_step}
 use Rattle.qlt_spec.proofs.OperationLaws as operation
 
@@ -47,9 +47,6 @@ same-scale-decides k b = decides-unless _ 17 (and-means (le-means k 30) (eq-mean
 pub kept-decides : (kept : List ℕ) (total : ℕ) → Decides (check_kept kept total) (kept_rule kept total)
 unfolding check_kept
 kept-decides kept total = decides-unless _ 12 (eq-means (sum kept) total)
-
-pub number_of : {n m p q : ℕ} → Fail n p ≡ Fail m q → n ≡ m
-number_of e = cc
 
 module _ (c : StepCall) where
   abbrev k : ℕ
@@ -146,7 +143,7 @@ module _ (c : StepCall) where
   unfolding step_verdict step_verdict_with
   step-decides = step-decides-with [] [] decides-none
 
-  pub step-refuses : (number place : ℕ) → (step_verdict c ≡ Fail number place) ↔ Broken (step_rules c) number place
+  pub step-refuses : (number place : ℕ) → (step_verdict c ≡ refused number place) ↔ Broken (step_rules c) number place
   step-refuses = step-decides.fails
 
   verdict-is : step_verdict c ≡ both (first (before_book [])) (first of_book)
@@ -197,12 +194,12 @@ module _ (c : StepCall) where
         ),
   )
 
-  pub before-accepts : (first (before_book []) ≡ Pass) ↔ MassesFit c
+  pub before-accepts : (first (before_book []) ≡ Ok tt) ↔ MassesFit c
   before-accepts =
       let d = before-decides [] [] decides-none in
       (λ e. rules-fit.0 (d.passes.0 e), λ f. d.passes.1 (rules-fit.1 f))
 
-  pub step-accepts : (step_verdict c ≡ Pass) ↔ StepFits c
+  pub step-accepts : (step_verdict c ≡ Ok tt) ↔ StepFits c
   step-accepts = (
     λ e.
         let p = sym verdict-is ∙ e in
@@ -215,21 +212,21 @@ module _ (c : StepCall) where
 
   -- with checks put in, the chain is Step's extended by them
   pub with-extends :
-      {Put : ℕ → Type 0} (own : List Checked) → All (λ v. (number place : ℕ) → v ≡ Fail number place → Put number) own
+      {Put : ℕ → Type 0} (own : List Checked) → All (λ v. (number place : ℕ) → v ≡ refused number place → Put number) own
       → Extends Put (step_checks_with scratch_per_node own c) (step_checks c)
   with-extends own h =
       Extends.shared (Extends.shared (Extends.shared (Extends.shared (Extends.shared (Extends.shared
       (extends-own own h (Extends.shared (Extends.shared (Extends.shared (Extends.shared Extends.end))))))))))
 
   -- so where it passes, Step fits
-  pub with-fits : (own : Checked) → step_verdict_with (own ∷ []) c ≡ Pass → StepFits c
+  pub with-fits : (own : Checked) → step_verdict_with (own ∷ []) c ≡ Ok tt → StepFits c
   unfolding step_verdict_with step_verdict
   with-fits own e = step-accepts.0 (extends-pass (with-extends {Put = λ n. Unit} (own ∷ []) (All.more (λ n p q. tt) All.none)) e)
 
   -- ---- 21 comes last, and only where every other check has passed
 
   -- the book's checks refuse with these alone
-  pub of-book : (number place : ℕ) → first of_book ≡ Fail number place → OneOf (14 ∷ 15 ∷ 16 ∷ 12 ∷ 21 ∷ []) number
+  pub of-book : (number place : ℕ) → first of_book ≡ refused number place → OneOf (14 ∷ 15 ∷ 16 ∷ 12 ∷ 21 ∷ []) number
   of-book number place e =
       lent-numbers c.book c.length c.balance.total number (fails-number (lent-decides c.book c.length c.balance.total) e)
 
@@ -238,7 +235,7 @@ module _ (c : StepCall) where
   unfolding shape_rules value_rules
   before-numbers n o = are-of _ (1 ∷ 2 ∷ 3 ∷ 3 ∷ 17 ∷ 4 ∷ 5 ∷ 6 ∷ 7 ∷ 12 ∷ 13 ∷ 8 ∷ []) refl n o
 
-  pub step-full : (place : ℕ) → (step_verdict c ≡ Fail 21 place) ↔ ((place ≡ 0) × StepFull c)
+  pub step-full : (place : ℕ) → (step_verdict c ≡ refused 21 place) ↔ ((place ≡ 0) × StepFull c)
   step-full place = (
     λ e.
         let h = broken-later (before_rules []) of_book_rules 21 place (λ o. no_number _ 21 refl (before-numbers 21 o))
@@ -254,11 +251,11 @@ module _ (c : StepCall) where
 
   -- the same with a check put in
   module _ (own : Checked) (n : ℕ) {P : Type 0} (d : Decides own (rule n P)) (other : n ≡ 21 → ⊥) where
-    parts : All Passes (before_book (own ∷ [])) → (own ≡ Pass) × (first (before_book []) ≡ Pass)
+    parts : All Passes (before_book (own ∷ [])) → (own ≡ Ok tt) × (first (before_book []) ≡ Ok tt)
     parts (All.more a (All.more b (All.more e (All.more f (All.more g (All.more h (All.more o (All.more r All.none)))))))) =
         (o, all_pass (before_book []) (All.more a (All.more b (All.more e (All.more f (All.more g (All.more h (All.more r All.none))))))))
 
-    not-before : (number place : ℕ) → number ≡ 21 → first (before_book (own ∷ [])) ≡ Fail number place → ⊥
+    not-before : (number place : ℕ) → number ≡ 21 → first (before_book (own ∷ [])) ≡ refused number place → ⊥
     unfolding shape_rules value_rules OneOf
     not-before number place q e =
         ⊎_elim (λ o. no_number (1 ∷ 2 ∷ 3 ∷ 3 ∷ 17 ∷ 4 ∷ 5 ∷ 6 ∷ 7 ∷ 12 ∷ 13 ∷ []) 21 refl o) (⊎_elim (λ o. other (sym o)) (⊎_elim (λ o. omega arith) (λ o. o)))
@@ -266,7 +263,7 @@ module _ (c : StepCall) where
         (subst (OneOf (1 ∷ 2 ∷ 3 ∷ 3 ∷ 17 ∷ 4 ∷ 5 ∷ 6 ∷ 7 ∷ 12 ∷ 13 ∷ n ∷ 8 ∷ [])) q
         (fails-number (before-decides (own ∷ []) (rule n P ∷ []) (decides-then _ _ _ _ d decides-none)) e)))
 
-    pub with-full : (place : ℕ) → (step_verdict_with (own ∷ []) c ≡ Fail 21 place) ↔ ((place ≡ 0) × (StepFull c × P))
+    pub with-full : (place : ℕ) → (step_verdict_with (own ∷ []) c ≡ refused 21 place) ↔ ((place ≡ 0) × (StepFull c × P))
     with-full place = (
       λ e. by-verdict (verdict (first (before_book (own ∷ [])))) (sym (book-last (own ∷ [])) ∙ e),
       λ h.
@@ -277,15 +274,15 @@ module _ (c : StepCall) where
     )
       where
         by-verdict :
-            Verdict (first (before_book (own ∷ []))) → both (first (before_book (own ∷ []))) (first of_book) ≡ Fail 21 place
+            Verdict (first (before_book (own ∷ []))) → both (first (before_book (own ∷ []))) (first of_book) ≡ refused 21 place
             → (place ≡ 0) × (StepFull c × P)
         by-verdict (passed f) e =
             let q = parts (pass_all (before_book (own ∷ [])) f) in
             let z = (lent-full c.book c.length c.balance.total place).0 (ap (λ v. both v (first of_book)) (sym f) ∙ e) in
             (z.0, (record { masses = before-accepts.0 q.1; lent = z.1 }, d.passes.0 q.0))
         by-verdict (failed number p f) e =
-            let z : Fail number p ≡ Fail 21 place = stop (first of_book) f ∙ e in
-            absurd (not-before number p (number_of z) f)
+            let z : ◌≡◌ {A = Checked} (refused number p) (refused 21 place) = stop (first of_book) f ∙ e in
+            absurd (not-before number p (refused-number z) f)
 
   -- it refuses with the papers' numbers and no others
   pub step-numbers : (n : ℕ) → OneOf (numbers_of (step_rules c)) n → OneOf (1 ∷ 2 ∷ 3 ∷ 17 ∷ 4 ∷ 5 ∷ 6 ∷ 7 ∷ 12 ∷ 13 ∷ 8 ∷ 14 ∷ 15 ∷ 16 ∷ 21 ∷ []) n
@@ -328,16 +325,16 @@ module _ (c : StepCall) where
   masses-first own h = book-last own ∙ ap (λ v. both v (first of_book)) (room-passes-with own h)
 
   -- a book that closes with the step's total and is not full passes
-  pub lent-passes : (B : Book) → HasBook c.book c.length B → closing B ≡ c.balance.total → count B < max_entries → first of_book ≡ Pass
+  pub lent-passes : (B : Book) → HasBook c.book c.length B → closing B ≡ c.balance.total → count B < max_entries → first of_book ≡ Ok tt
   lent-passes B h q l = has-verdict c.balance.total h q ∙ (full-decides B).passes.1 l
 
   -- a step that they refuse is refused so, lent any buffer that is long enough
-  pub masses-refused : max_bytes ≤ length c.book → (number place : ℕ) → first mass_checks ≡ Fail number place → step_verdict c ≡ Fail number place
+  pub masses-refused : max_bytes ≤ length c.book → (number place : ℕ) → first mass_checks ≡ refused number place → step_verdict c ≡ refused number place
   masses-refused h number place e = verdict-is ∙ ap (λ v. both v (first of_book)) (room-passes h ∙ e)
 
   -- a step that they pass is accepted, lent a book that closes with its total and is not full
   pub masses-accepted :
-      (B : Book) → HasBook c.book c.length B → closing B ≡ c.balance.total → count B < max_entries → first mass_checks ≡ Pass → step_verdict c ≡ Pass
+      (B : Book) → HasBook c.book c.length B → closing B ≡ c.balance.total → count B < max_entries → first mass_checks ≡ Ok tt → step_verdict c ≡ Ok tt
   masses-accepted B h q l e = verdict-is ∙ sym (on (room-passes h.room ∙ e) (sym (lent-passes B h q l)))
 
   -- ---- beside Reconstruct
@@ -360,7 +357,7 @@ module _ (c : StepCall) where
       (Extends.shared (Extends.extra (λ n p e. are-of _ (14 ∷ 15 ∷ 16 ∷ 12 ∷ 21 ∷ []) refl n (of-book n p e)) Extends.end)))))))
 
   -- so a step that is refused is refused with a number of its own, or as Reconstruct refuses that repair
-  pub step-as-repair : (number place : ℕ) → step_verdict c ≡ Fail number place → Own number ⊎ (reconstruct_verdict (repair_call c) ≡ Fail number place)
+  pub step-as-repair : (number place : ℕ) → step_verdict c ≡ refused number place → Own number ⊎ (reconstruct_verdict (repair_call c) ≡ refused number place)
   unfolding reconstruct_verdict
   step-as-repair number place e =
       extends-fail step-extends (sym (first-append (before_book []) (first of_book ∷ [])) ∙ ap (both (first (before_book []))) (both-pass (first of_book)) ∙ sym verdict-is ∙ e)
@@ -397,18 +394,18 @@ module _ (c : StepCall) where
       adds g = unfold Broken in (⊎_elim (λ b. absurd (z (sym e ∙ b.0))) (λ b. b.0) g)
 
   -- a call refused with 13 or 8 is refused by a check before the book's
-  for-total : (number place : ℕ) → step_verdict c ≡ Fail number place → (number ≡ 13) ⊎ (number ≡ 8) → Broken (before_rules []) number place
+  for-total : (number place : ℕ) → step_verdict c ≡ refused number place → (number ≡ 13) ⊎ (number ≡ 8) → Broken (before_rules []) number place
   for-total number place e o =
       ⊎_elim (λ b. b) (λ b. absurd (not-of_book (((lent-decides c.book c.length c.balance.total).fails number place).1 b.1)))
       ((broken-append (before_rules []) of_book_rules number place).0 (subst (λ rs. Broken rs number place) (rules-last []) ((step-refuses number place).0 e)))
     where
-      not-of_book : first of_book ≡ Fail number place → ⊥
+      not-of_book : first of_book ≡ refused number place → ⊥
       not-of_book h =
           ⊎_elim (λ q. no_number (14 ∷ 15 ∷ 16 ∷ 12 ∷ 21 ∷ []) 13 refl (subst (OneOf (14 ∷ 15 ∷ 16 ∷ 12 ∷ 21 ∷ [])) q (of-book number place h)))
           (λ q. no_number (14 ∷ 15 ∷ 16 ∷ 12 ∷ 21 ∷ []) 8 refl (subst (OneOf (14 ∷ 15 ∷ 16 ∷ 12 ∷ 21 ∷ [])) q (of-book number place h))) o
 
   -- so it is past them, and its masses do not fit
-  pub refused-for-total : (number place : ℕ) → step_verdict c ≡ Fail number place → (number ≡ 13) ⊎ (number ≡ 8) → Past × (MassesFit c → ⊥)
+  pub refused-for-total : (number place : ℕ) → step_verdict c ≡ refused number place → (number ≡ 13) ⊎ (number ≡ 8) → Past × (MassesFit c → ⊥)
   unfolding shape_rules value_rules
   refused-for-total number place e o =
       let b = for-total number place e o in (
@@ -417,29 +414,13 @@ module _ (c : StepCall) where
         λ f. no-pass (before-accepts.1 f) (((before-decides [] [] decides-none).fails number place).1 b),
       )
 
--- ---- the answer
-
-pub answer-tells : (a : Answered StepResult) → step_tells (step_answer a) ≡ a
-unfolding step_tells
-answer-tells (accepted r) = refl
-answer-tells (refused number place) = refl
-
--- what an answer tells is the answer
-pub step-tells-injective : (a b : Stepped) → step_tells a ≡ step_tells b → a ≡ b
-unfolding step_tells
-step-tells-injective = injective step_answer back
-  where
-    back : (a : Stepped) → step_answer (step_tells a) ≡ a
-    back (Accepted r b l) = refl
-    back (Refused number place) = refl
-
 -- ---- an accepted call
 
 outcome-small : (o : Outcome) → outcome_number o ≤ 2
 unfolding outcome_number
-outcome-small attainable = omega arith
-outcome-small below = omega arith
-outcome-small above = omega arith
+outcome-small Attainable = omega arith
+outcome-small Below = omega arith
+outcome-small Above = omega arith
 
 module _ (c : StepCall) (fits : StepFits c) where
   -- the repair that it asks for fits
@@ -458,34 +439,32 @@ module _ (c : StepCall) (fits : StepFits c) where
 
 module _ (c : StepCall) (y : Typed c) where
   -- by a verdict that refuses
-  pub failed-promised : {v : Checked} {number place : ℕ} → v ≡ Fail number place → StepBy v c (Refused number place) c.kept c.scratch c.book
-  unfolding step_tells
+  pub failed-promised : {v : Checked} {number place : ℕ} → v ≡ refused number place → StepBy v c (refused number place) c.kept c.scratch c.book
   failed-promised {number = number} {place = place} e =
-      subst (λ v. StepBy v c (Refused number place) c.kept c.scratch c.book) (sym e)
+      subst (λ v. StepBy v c (refused number place) c.kept c.scratch c.book) (sym e)
       (record { typed = y; tells = record { answers = refl; leaves = record { writes = refl; clears = refl } }; files = refl })
 
   -- lent any buffer that is long enough
   pub refused-promised :
-      max_bytes ≤ length c.book → (number place : ℕ) → first (mass_checks c) ≡ Fail number place
-      → StepContract c (Refused number place) c.kept c.scratch c.book
+      max_bytes ≤ length c.book → (number place : ℕ) → first (mass_checks c) ≡ refused number place
+      → StepContract c (refused number place) c.kept c.scratch c.book
   refused-promised h number place e = failed-promised (masses-refused c h number place e)
 
   -- what an accepted step gives and leaves, by a verdict and with the new length l
   abbrev pub Steps : Checked → ℕ → Type 0
   Steps v l =
-      StepBy v c (Accepted (step_result c).repair (step_result c).balance l) (tree_masses (field c.lists) (new_total c))
+      StepBy v c (Ok (record { repair = (step_result c).repair; balance = (step_result c).balance; length = l })) (tree_masses (field c.lists) (new_total c))
       (cleared (scratch_per_node * nodes c.lists) c.scratch) (grown_buffer c.book c.length (step_entry c))
 
   -- by a verdict that accepts; the new length is that of the book lent with one record more
-  pub passed-promised : {v : Checked} (B : Book) → HasBook c.book c.length B → v ≡ Pass → Steps v (512 * book_blocks (suc (count B)))
-  unfolding step_tells
+  pub passed-promised : {v : Checked} (B : Book) → HasBook c.book c.length B → v ≡ Ok tt → Steps v (512 * book_blocks (suc (count B)))
   passed-promised {v} B h e =
       subst (λ b. Steps v (512 * book_blocks (suc (count b)))) (has-read h)
       (subst (λ w. Steps w (grown_length c.book c.length)) (sym e)
       (record { typed = y; tells = record { answers = refl; leaves = record { writes = refl; clears = refl } }; files = refl }))
 
   pub accepted-promised :
-      (B : Book) → HasBook c.book c.length B → closing B ≡ c.balance.total → count B < max_entries → first (mass_checks c) ≡ Pass
+      (B : Book) → HasBook c.book c.length B → closing B ≡ c.balance.total → count B < max_entries → first (mass_checks c) ≡ Ok tt
       → Steps (step_verdict c) (512 * book_blocks (suc (count B)))
   accepted-promised B h q l e = passed-promised B h (masses-accepted c B h q l e)
 
@@ -495,12 +474,12 @@ module _ (e : Event) (p : Promised e) where
   abbrev c : StepCall
   c = e.call
 
-  abbrev Told : Answered StepResult → Type 0
+  abbrev Told : Answered Stepped → Type 0
   Told a = RepairTells (step_verdict c) (repair_call c) (step_result c) a e.kept e.scratch
 
   -- a call that told a result fits; its masses are the whole tree's and have every fact, and its scratch is cleared
-  module _ (r : StepResult) (t : told e ≡ accepted r) where
-    so : Told (accepted r)
+  module _ (r : Stepped) (t : told e ≡ Ok r) where
+    so : Told (Ok r)
     so = subst Told t p.tells
 
     pub accepted-fits : StepFits c
@@ -582,7 +561,7 @@ module _ (e : Event) (p : Promised e) where
   pub step-account : pos (sum e.kept) ≡ pos (sum c.kept) +ℤ gain e
   step-account = by-told (told e) refl
     where
-      by-told : (a : Answered StepResult) → told e ≡ a → pos (sum e.kept) ≡ pos (sum c.kept) +ℤ gain_by a c.source
-      by-told (accepted r) t =
+      by-told : (a : Answered Stepped) → told e ≡ a → pos (sum e.kept) ≡ pos (sum c.kept) +ℤ gain_by a c.source
+      by-told (Ok r) t =
           ap pos (accepted-sum r t) ∙ (accepted-facts r t).moves ∙ ap (λ n. pos n +ℤ c.source) (sym (accepted-fits r t).masses.adds_up)
-      by-told (refused number place) t = ap (λ l. pos (sum l)) (refused-keeps number place t).0 ∙ sym (+ℤ_idr (pos (sum c.kept)))
+      by-told (Err r) t = ap (λ l. pos (sum l)) (refused-keeps r.number r.place t).0 ∙ sym (+ℤ_idr (pos (sum c.kept)))

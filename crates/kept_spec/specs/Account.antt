@@ -1,22 +1,22 @@
 -- Runs of Step calls after an opening ('Kept field' of 01), and the account of a run: the conclusion of demand 3. Assumes nothing.
-use Rattle.std.specs.Prelude.{◌≡◌, ◌⊎◌, ◌↔◌, List, ◌++◌, ℕ, ℤ, pos, ◌+ℤ◌, drop}
-use Rattle.numbers.specs.Checks.{Answered, accepted, refused, Broken}
+use Rattle.std.specs.Prelude.{Ok, Err, ◌≡◌, ◌⊎◌, ◌↔◌, List, ◌++◌, ℕ, ℤ, pos, ◌+ℤ◌, drop}
+use Rattle.numbers.specs.Checks.{Answered, refused, Broken}
+use Rattle.numbers.specs.Lists.{sum, All}
 use Rattle.qlt_spec.specs.Field.{field, Meets}
 use Rattle.qlt_spec.specs.Masses.{tree_masses}
 use Rattle.qlt_spec.specs.Facts.{FieldFacts}
-use Rattle.numbers.specs.Lists.{sum, All}
 use Rattle.qlt_spec.specs.Operation.{repair}
 use Rattle.book_spec.specs.Book.{entry, Book, closing, recorded, add}
 use Rattle.book_spec.specs.LentBook.{held_in, HasBook}
-use Rattle.kept_spec.specs.declared.Balance.{Balance}
 use Rattle.kept_spec.specs.declared.Stepped.{Stepped}
-use Rattle.kept_spec.specs.Step.{StepCall, next, step_rules, StepFits, StepResult, step_tells, StepContract}
+use Rattle.kept_spec.specs.declared.Balance.{Balance}
+use Rattle.kept_spec.specs.Step.{StepCall, next, step_rules, StepFits, StepContract}
 use Rattle.kept_spec.specs.Run.{sum_of}
 
 -- a Step call with what it gave and left
 pub record Event : Type 0 where
   pub call : StepCall
-  pub answer : Stepped
+  pub answer : Answered Stepped
   pub kept : List ℕ
   pub scratch : List ℤ
   pub book : List ℕ
@@ -27,27 +27,27 @@ pub record Standing : Type 0 where
   pub balance : Balance
 
 -- what an event told
-abbrev pub told : Event → Answered StepResult
-told e = step_tells e.answer
+abbrev pub told : Event → Answered Stepped
+told e = e.answer
 
-abbrev pub Accepts : Answered StepResult → Type 0
-Accepts (accepted r) = Unit
-Accepts (refused number place) = ⊥
+abbrev pub Accepts : Answered Stepped → Type 0
+Accepts (Ok r) = Unit
+Accepts (Err r) = ⊥
 
 -- refused for its new total: with 13 or 8
-abbrev pub ForTotal : Answered StepResult → Type 0
-ForTotal (accepted r) = ⊥
-ForTotal (refused number place) = (number ≡ 13) ⊎ (number ≡ 8)
+abbrev pub ForTotal : Answered Stepped → Type 0
+ForTotal (Ok r) = ⊥
+ForTotal (Err r) = (r.number ≡ 13) ⊎ (r.number ≡ 8)
 
 -- the balance after a call: the one that it gave if it was accepted, else as it was
-abbrev pub balance_after : Answered StepResult → Balance → Balance
-balance_after (accepted r) b = r.balance
-balance_after (refused number place) b = b
+abbrev pub balance_after : Answered Stepped → Balance → Balance
+balance_after (Ok r) b = r.balance
+balance_after (Err r) b = b
 
 -- the source of an accepted call; a refused one brings none
-abbrev pub gain_by : Answered StepResult → ℤ → ℤ
-gain_by (accepted r) source = source
-gain_by (refused number place) source = pos 0
+abbrev pub gain_by : Answered Stepped → ℤ → ℤ
+gain_by (Ok r) source = source
+gain_by (Err r) source = pos 0
 
 abbrev pub gain : Event → ℤ
 gain e = gain_by (told e) e.call.source
@@ -74,10 +74,10 @@ Reachable c = (y : ℕ → ℤ) × Meets (field c.lists).n (field c.lists).safe_
 abbrev pub book_before : StepCall → Book
 book_before c = held_in c.book c.length
 
-abbrev pub book_after_step : StepCall → StepResult → Book
+abbrev pub book_after_step : StepCall → Stepped → Book
 book_after_step c r = add (book_before c) (entry c.source r.repair.outcome r.balance.total)
 
-pub record BookFacts (c : StepCall) (r : StepResult) (kept book : List ℕ) : Type 0 where
+pub record BookFacts (c : StepCall) (r : Stepped) (kept book : List ℕ) : Type 0 where
   pub before : HasBook c.book c.length (book_before c)
   pub left : HasBook book r.length (book_after_step c r)
   -- bytes past it are as they were
@@ -88,7 +88,7 @@ pub record BookFacts (c : StepCall) (r : StepResult) (kept book : List ℕ) : Ty
   pub closes : closing (book_after_step c r) ≡ r.balance.total
 
 -- what an accepted step gave and left
-pub record AcceptedFacts (c : StepCall) (r : StepResult) (kept book : List ℕ) : Type 0 where
+pub record AcceptedFacts (c : StepCall) (r : Stepped) (kept book : List ℕ) : Type 0 where
   -- 'its new total': M is the total given plus the source, and the new balance's total is that M
   pub moves : pos r.balance.total ≡ next c
   -- and its scale is the one that the step names
@@ -108,7 +108,7 @@ pub record StepFacts (e : Event) : Type 0 where
   -- the rule that is broken, those before it holding
   pub accepts : Accepts (told e) ↔ StepFits e.call
   pub refuses : (number place : ℕ) → (told e ≡ refused number place) ↔ Broken (step_rules e.call) number place
-  pub gives : (r : StepResult) → told e ≡ accepted r → AcceptedFacts e.call r e.kept e.book
+  pub gives : (r : Stepped) → told e ≡ Ok r → AcceptedFacts e.call r e.kept e.book
   -- 'a step accepted or refused for its new total was accepted exactly when some masses within its safety bounds reach it'
   pub decided : Accepts (told e) ⊎ ForTotal (told e) → Accepts (told e) ↔ Reachable e.call
 

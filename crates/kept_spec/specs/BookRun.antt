@@ -1,14 +1,13 @@
 -- Runs of Step calls after an opening that hand on a book, which may be replaced by one that opens with the total standing, the closing total of
 -- the book before; and what is claimed of the book at the end of every run. The account of the masses is demand 3's. Assumes nothing.
-use Rattle.std.specs.Prelude.{◌≡◌, List, [], ◌∷◌, ◌++◌, ℕ, ℤ, pos, ◌+ℤ◌}
+use Rattle.std.specs.Prelude.{Ok, Err, ◌≡◌, List, [], ◌∷◌, ◌++◌, ℕ, ℤ, pos, ◌+ℤ◌}
 use Rattle.numbers.specs.Lists.{sum}
-use Rattle.numbers.specs.Checks.{Answered, accepted, refused}
-use Rattle.book_spec.specs.declared.BookStarted.{BookStarted}
+use Rattle.numbers.specs.Checks.{Answered}
 use Rattle.book_spec.specs.Book.{entry, Book, book, closing, recorded, add}
-use Rattle.book_spec.specs.StartBook.{book_start_tells, BookStartContract}
+use Rattle.book_spec.specs.StartBook.{BookStartContract}
 use Rattle.book_spec.specs.LentBook.{HasBook}
+use Rattle.kept_spec.specs.declared.Stepped.{Stepped}
 use Rattle.kept_spec.specs.declared.Balance.{Balance}
-use Rattle.kept_spec.specs.Step.{StepResult}
 use Rattle.kept_spec.specs.Run.{collect}
 use Rattle.kept_spec.specs.Account.{Event, Standing, told, Accepts, Moves}
 
@@ -16,7 +15,7 @@ use Rattle.kept_spec.specs.Account.{Event, Standing, told, Accepts, Moves}
 pub record StartEvent : Type 0 where
   pub total : ℕ
   pub buffer : List ℕ
-  pub answer : BookStarted
+  pub answer : Answered ℕ
   pub left : List ℕ
 
 abbrev pub StartPromised : StartEvent → Type 0
@@ -54,24 +53,24 @@ pub data Lent (stands given left : List ℕ) (Accepted : Type 0) : List ℕ → 
   elsewhere : (Accepted → ⊥) → Lent stands given left Accepted stands
 
 -- the book's length after a call
-abbrev pub length_after : Answered StepResult → ℕ → ℕ
-length_after (accepted r) l = r.length
-length_after (refused number place) l = l
+abbrev pub length_after : Answered Stepped → ℕ → ℕ
+length_after (Ok r) l = r.length
+length_after (Err r) l = l
 
 -- a step moves masses and balance as in every run, and is lent the book's buffer likewise, and its length if it is accepted; or the book, full or
 -- not, is replaced by one that opens with the total standing. Nobody else writes the buffer. A refused start writes nothing and is no act.
 pub data LedgerMoves : Ledger → Act → Ledger → Type 0 where
   steps : {s : Ledger} {e : Event} {t : Standing} {book : List ℕ} → Moves (standing_of s) e t → Lent s.book e.call.book e.book (Accepts (told e)) book
       → (Accepts (told e) → e.call.length ≡ s.length) → LedgerMoves s (Act.steps e) (ledger t book (length_after (told e) s.length))
-  starts : {s : Ledger} {e : StartEvent} {l : ℕ} → StartPromised e → book_start_tells e.answer ≡ accepted l → e.total ≡ s.balance.total
+  starts : {s : Ledger} {e : StartEvent} {l : ℕ} → StartPromised e → e.answer ≡ Ok l → e.total ≡ s.balance.total
       → LedgerMoves s (Act.starts e) (ledger (standing_of s) e.left l)
 
 -- ---- the book of a run
 
 -- an accepted step adds the record of its source, outcome and new total
-abbrev pub recorded_by : Answered StepResult → ℤ → Book → Book
-recorded_by (accepted r) source B = add B (entry source r.repair.outcome r.balance.total)
-recorded_by (refused number place) source B = B
+abbrev pub recorded_by : Answered Stepped → ℤ → Book → Book
+recorded_by (Ok r) source B = add B (entry source r.repair.outcome r.balance.total)
+recorded_by (Err r) source B = B
 
 abbrev pub book_by : Act → Book → Book
 book_by (Act.steps e) B = recorded_by (told e) e.call.source B

@@ -1,14 +1,13 @@
 -- A concrete run, so that runs are not empty talk: two cells opened with 3 and 5 at scale 20, and a book started; an accepted step with source 2;
 -- refused ones, for its new total, for another total than the one standing, at another scale, at a scale above 30 with a balance at that scale, lent
 -- a part of the kept masses, and lent other lists; and an accepted one with source −4. Beside it a step with a full book. Assumes nothing.
-use Rattle.std.specs.Prelude.{List, [], ◌∷◌, map, ℕ, ℤ, pos, negsuc, replicate}
+use Rattle.std.specs.Prelude.{Ok, List, [], ◌∷◌, map, ℕ, ℤ, pos, negsuc, replicate}
+use Rattle.numbers.specs.Checks.{refused}
 use Rattle.numbers.specs.Lists.{written}
 use Rattle.qlt_spec.specs.Field.{Lists, lists}
-use Rattle.book_spec.specs.declared.BookStarted.TheVariants.{Length}
 use Rattle.book_spec.specs.Book.{Entry, entry, Book, book, max_entries, max_bytes, book_bytes}
 use Rattle.book_spec.specs.LentBook.{grown_buffer}
 use Rattle.kept_spec.specs.declared.Balance.{Balance}
-use Rattle.kept_spec.specs.declared.Stepped.TheVariants.{Accepted, Refused}
 use Rattle.kept_spec.specs.Step.{StepCall, step_call}
 use Rattle.kept_spec.specs.Account.{Event, Standing}
 use Rattle.kept_spec.specs.BookRun.{StartEvent, Act, Ledger, ledger}
@@ -53,7 +52,7 @@ begin = record { kept = 3 ∷ 5 ∷ []; balance = balance 8 }
 
 -- a start of a book, and the one that opens with 8
 abbrev pub book_start : ℕ → StartEvent
-book_start total = record { total = total; buffer = zeros; answer = Length 512; left = lent_book total }
+book_start total = record { total = total; buffer = zeros; answer = Ok 512; left = lent_book total }
 
 abbrev pub start_call : StartEvent
 start_call = book_start 8
@@ -63,7 +62,7 @@ abbrev pub first_call : Event
 first_call =
     record {
       call = step_call (balance 8) (3 ∷ 5 ∷ []) (pos 2) 20 two (replicate 12 (pos 1)) (lent_book 8) 512;
-      answer = Accepted (record { outcome = 0; total = 10; change = 2; shared = 2 }) (balance 10) 512;
+      answer = Ok (record { repair = record { outcome = 0; total = 10; change = 2; shared = 2 }; balance = balance 10; length = 512 });
       kept = 4 ∷ 6 ∷ [];
       scratch = replicate 12 (pos 0);
       book = one_record;
@@ -74,7 +73,7 @@ abbrev refusal : Balance → List ℕ → ℤ → ℕ → List ℕ → ℕ → E
 refusal b kept source scale book number =
     record {
       call = step_call b kept source scale two (replicate 12 (pos 1)) book 512;
-      answer = Refused number 0;
+      answer = refused number 0;
       kept = kept;
       scratch = replicate 12 (pos 1);
       book = book;
@@ -109,7 +108,7 @@ abbrev pub eighth_call : Event
 eighth_call =
     record {
       call = step_call (balance 10) (4 ∷ 6 ∷ []) (negsuc 3) 20 two (replicate 12 (pos 1)) one_record 512;
-      answer = Accepted (record { outcome = 0; total = 6; change = 2; shared = 2 }) (balance 6) 512;
+      answer = Ok (record { repair = record { outcome = 0; total = 6; change = 2; shared = 2 }; balance = balance 6; length = 512 });
       kept = 2 ∷ 4 ∷ [];
       scratch = replicate 12 (pos 0);
       book = two_records;

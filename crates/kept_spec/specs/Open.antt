@@ -1,11 +1,8 @@
 -- The operation Open: its verdict and its answer. Assumes nothing.
 use Rattle.std.specs.Prelude.{◌≡◌, List, [], ◌∷◌, ◌++◌, ℕ, ◌≤◌, ◌<◌, pos, length}
-use Rattle.numbers.specs.declared.Checked.{Checked}
-use Rattle.numbers.specs.Checks.{Answered, accepted, refused, answered, first, check_count, check_scale, check_total, Rule, rule, total_rule, max_total}
+use Rattle.numbers.specs.Checks.{Checked, Answered, answered, first, check_count, check_scale, check_total, Rule, rule, total_rule, max_total}
 use Rattle.numbers.specs.Lists.{sum}
 use Rattle.kept_spec.specs.declared.Balance.{Balance}
-use Rattle.kept_spec.specs.declared.Opened.{Opened}
-use Rattle.kept_spec.specs.declared.Opened.TheVariants.{Accepted, Refused}
 
 -- 1; 9 (02), of the scale k; the checks `own` of an operation that opens, none of Open itself; 13
 abbrev pub open_checks_with : List Checked → List ℕ → ℕ → List Checked
@@ -38,19 +35,10 @@ pub record OpenFits (kept : List ℕ) (k : ℕ) : Type 0 where
 abbrev pub open_balance : List ℕ → ℕ → Balance
 open_balance kept k = record { total = sum kept; scale = k }
 
--- what an answer tells, and the answer that tells it
-unfoldable pub open_tells : Opened → Answered Balance
-open_tells (Accepted b) = accepted b
-open_tells (Refused number place) = refused number place
-
-abbrev pub open_answer : Answered Balance → Opened
-open_answer (accepted b) = Accepted b
-open_answer (refused number place) = Refused number place
-
 -- what an opening answers by a verdict
-pub record OpenBy (v : Checked) (kept : List ℕ) (k : ℕ) (answer : Opened) : Type 0 where
-  pub answers : open_tells answer ≡ answered v (open_balance kept k)
+pub record OpenBy (v : Checked) (kept : List ℕ) (k : ℕ) (answer : Answered Balance) : Type 0 where
+  pub answers : answer ≡ answered v (open_balance kept k)
 
 -- the whole contract of the operation
-abbrev pub OpenContract : List ℕ → ℕ → Opened → Type 0
+abbrev pub OpenContract : List ℕ → ℕ → Answered Balance → Type 0
 OpenContract kept k answer = OpenBy (open_verdict kept k) kept k answer

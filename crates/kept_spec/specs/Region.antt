@@ -5,7 +5,8 @@ use Rattle.numbers.specs.Lists.{at, sum}
 use Rattle.numbers.specs.Checks.{Answered}
 use Rattle.qlt_spec.specs.Field.{Field, cells, field}
 use Rattle.qlt_spec.specs.Region.{Outside, EditedField, PastSeven, SameRepair, SameTold}
-use Rattle.kept_spec.specs.Step.{StepCall, StepResult}
+use Rattle.kept_spec.specs.declared.Stepped.{Stepped}
+use Rattle.kept_spec.specs.Step.{StepCall}
 use Rattle.kept_spec.specs.Account.{Event}
 use Rattle.kept_spec.specs.BookRun.{StartEvent, Act, Ledger, LedgerMoves}
 
@@ -29,13 +30,13 @@ pub record EditedStep (c d : StepCall) (v : ℕ) : Type 0 where
 
 -- the results of two accepted steps that left the masses xs and ys: repairs that are the same outside v, the same balance, and the same length of
 -- the book
-pub record SameStepped (F : Field) (v : ℕ) (xs ys : List ℕ) (x y : StepResult) : Type 0 where
+pub record SameStepped (F : Field) (v : ℕ) (xs ys : List ℕ) (x y : Stepped) : Type 0 where
   pub repair : SameRepair F v x.repair y.repair xs ys
   pub balance : x.balance ≡ y.balance
   pub length : x.length ≡ y.length
 
 -- what two steps tell and leave, the buffers of their books byte for byte
-pub record SameSteps (F : Field) (v : ℕ) (a b : Answered StepResult) (xs ys book book' : List ℕ) : Type 0 where
+pub record SameSteps (F : Field) (v : ℕ) (a b : Answered Stepped) (xs ys book book' : List ℕ) : Type 0 where
   pub told : SameTold (SameStepped F v xs ys) a b
   pub books : book ≡ book'
 

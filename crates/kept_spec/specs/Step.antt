@@ -1,20 +1,17 @@
 -- The operation Step: what it is given, its verdict, its answer, and the lists it leaves, the book's buffer (02) among them. Assumes nothing.
 use Rattle.std.specs.Prelude.{◌≡◌, ◌&&◌, List, [], ◌∷◌, ◌++◌, ℕ, ◌≤◌, leb, eqb, ℤ, pos, negsuc, ◌+ℤ◌, ◌≤ℤ◌, length}
-use Rattle.numbers.specs.declared.Checked.{Checked}
 use Rattle.numbers.specs.Signed.{over}
-use Rattle.numbers.specs.Checks.{Answered, accepted, refused, after, unless, first, check_total, Rule, rule, total_rule, max_total}
-use Rattle.qlt_spec.specs.declared.Repair.{Repair}
-use Rattle.qlt_spec.specs.Field.{Lists, scratch_per_node}
+use Rattle.numbers.specs.Checks.{Checked, Answered, after, unless, first, check_total, Rule, rule, total_rule, max_total}
 use Rattle.numbers.specs.Lists.{sum}
+use Rattle.qlt_spec.specs.Field.{Lists, scratch_per_node}
 use Rattle.qlt_spec.specs.Checks.{shape_with, check_values, check_reach}
 use Rattle.qlt_spec.specs.Operation.{ReconstructCall, reconstruct_call, shape_rules, value_rules, reach_rule, ShapeFits, ValuesFit, Reaches, repair, RepairTells}
 use Rattle.blocks.specs.Words.{Bytes}
 use Rattle.book_spec.specs.Book.{Entry, entry, max_bytes}
 use Rattle.book_spec.specs.StartBook.{check_buffer, buffer_rule}
 use Rattle.book_spec.specs.LentBook.{lent_checks, lent_rules, LentFits, LentFull, grown_buffer, grown_length}
-use Rattle.kept_spec.specs.declared.Balance.{Balance}
 use Rattle.kept_spec.specs.declared.Stepped.{Stepped}
-use Rattle.kept_spec.specs.declared.Stepped.TheVariants.{Accepted, Refused}
+use Rattle.kept_spec.specs.declared.Balance.{Balance}
 
 -- all that a call is given; the book has `length` bytes, at the front of its buffer
 pub record StepCall : Type 0 where
@@ -128,12 +125,7 @@ pub record StepFull (c : StepCall) : Type 0 where
 
 -- what an accepted step gives beside the lists: the repair of its field for the new total, the new balance, at the scale of the old one, and the
 -- length of its book, which has a record more
-pub record StepResult : Type 0 where
-  pub repair : Repair
-  pub balance : Balance
-  pub length : ℕ
-
-abbrev pub step_result : StepCall → StepResult
+abbrev pub step_result : StepCall → Stepped
 step_result c =
     record {
       repair = repair c.lists (new_total c);
@@ -145,22 +137,13 @@ step_result c =
 abbrev pub step_entry : StepCall → Entry
 step_entry c = entry c.source (repair c.lists (new_total c)).outcome (new_total c)
 
--- what an answer tells, and the answer that tells it
-unfoldable pub step_tells : Stepped → Answered StepResult
-step_tells (Accepted r b l) = accepted (record { repair = r; balance = b; length = l })
-step_tells (Refused number place) = refused number place
-
-abbrev pub step_answer : Answered StepResult → Stepped
-step_answer (accepted r) = Accepted r.repair r.balance r.length
-step_answer (refused number place) = Refused number place
-
 -- what a step leaves and answers by a verdict: of masses and scratch what the repair for the new total leaves, and the book with its record more;
 -- bytes past the book are untouched
-pub record StepBy (v : Checked) (c : StepCall) (answer : Stepped) (kept : List ℕ) (scratch : List ℤ) (book : List ℕ) : Type 0 where
+pub record StepBy (v : Checked) (c : StepCall) (answer : Answered Stepped) (kept : List ℕ) (scratch : List ℤ) (book : List ℕ) : Type 0 where
   pub typed : Typed c
-  pub tells : RepairTells v (repair_call c) (step_result c) (step_tells answer) kept scratch
+  pub tells : RepairTells v (repair_call c) (step_result c) answer kept scratch
   pub files : book ≡ after v (grown_buffer c.book c.length (step_entry c)) c.book
 
 -- the whole contract of the operation
-abbrev pub StepContract : StepCall → Stepped → List ℕ → List ℤ → List ℕ → Type 0
+abbrev pub StepContract : StepCall → Answered Stepped → List ℕ → List ℤ → List ℕ → Type 0
 StepContract c answer kept scratch book = StepBy (step_verdict c) c answer kept scratch book

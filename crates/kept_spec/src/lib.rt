@@ -3,6 +3,8 @@
 // `kept`. Relies on `book_spec`, `blocks`, `qlt_spec`, `caas_spec` and `numbers`.
 #![tactic(auto)]
 
+use qlt_spec::Repair;
+
 // What stands beside the kept masses, 02's record: 01's total standing, and the scale that it was opened at.
 #[derive(Clone, Copy)]
 pub struct Balance {
@@ -10,24 +12,11 @@ pub struct Balance {
     pub scale: u32,
 }
 
-// Open's answer: the balance of the kept masses, or the refusal with 01's number and place.
+// What an accepted step gives: the repair of its field for the new total; the balance of the masses that have replaced the kept ones, at the
+// scale of the old one; and the length in bytes of its book, which has a record more.
 #[derive(Clone, Copy)]
-pub enum Opened {
-    Accepted(Balance),
-    Refused { number: u32, place: u32 },
-}
-
-// Step's answer: the masses have replaced the kept ones and have this balance, and the book, with a record more, has this length in bytes; or
-// the call is refused.
-#[derive(Clone, Copy)]
-pub enum Stepped {
-    Accepted {
-        repair: qlt_spec::Repair,
-        balance: Balance,
-        length: usize,
-    },
-    Refused {
-        number: u32,
-        place: u32,
-    },
+pub struct Stepped {
+    pub repair: Repair,
+    pub balance: Balance,
+    pub length: usize,
 }

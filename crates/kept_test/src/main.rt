@@ -5,13 +5,16 @@
 // papers' own words in another language, and not by this program. Each call is lent the field's book, started from the total at the opening and
 // again from the total standing when it has 64 blocks; nothing of it is printed. Masses stay far below 1000000000, and what is shared out far below
 // 1000000000000, so that the remainders by these, which rule out overflow, change none.
-// Relies on `kept`, which it tests, `kept_spec` and `qlt_spec` for the answers, `test_support`, and `numbers` in proofs.
+// Relies on `kept`, which it tests, `kept_spec`, `qlt_spec` and `numbers` for the answers, and `test_support`.
 #![tactic(auto)]
 
-ghost use Rattle.std.specs.Prelude.{◌<◌, ◌≤◌};
+ghost use Rattle.std.specs.Prelude.{◌<◌};
 
-use kept_spec::{Balance, Opened, Stepped};
-use qlt_spec::Repair;
+use kept_spec::{Balance, Stepped};
+use numbers::Refusal;
+use output::{show, show_opening};
+use qlt_spec::FieldLists;
+use std::fmt;
 use test_support::books::start;
 use test_support::draws::{draw, less, more};
 use test_support::fields::{cross, fill, fill_parents, nodes};
@@ -31,35 +34,32 @@ pub struct Run {
     pub shared: u64,
 }
 
-// The total of the balance given: the one standing, or by fault 1 another.
-fn given_total(total: u32, fault: u32) -> u32 {
-    if fault == 1 {
-        return more(total);
+// The balance given: the one standing, or by fault 1 another total, and by faults 8 and 9 another scale. Faults stay the numbers that are drawn, of
+// which several share a cause: an enum is no plainer.
+fn given_balance(balance: Balance, fault: u32) -> Balance {
+    match fault {
+        1 => Balance {
+            total: more(balance.total),
+            ..balance
+        },
+        8 => Balance {
+            scale: more(balance.scale),
+            ..balance
+        },
+        9 => Balance {
+            scale: 31,
+            ..balance
+        },
+        _ => balance,
     }
-    total
-}
-
-// The scale of the balance given: the one standing, or by faults 8 and 9 another.
-fn given_total_scale(scale: u32, fault: u32) -> u32 {
-    if fault == 8 {
-        return more(scale);
-    }
-    if fault == 9 { 31 } else { scale }
 }
 
 // The scale that the step names: the one standing, or by faults 6, 7 and 9 another.
 fn given_scale(scale: u32, fault: u32) -> u32 {
-    if fault == 7 {
-        return more(scale);
-    }
-    if fault == 6 || fault == 9 { 31 } else { scale }
-}
-
-// The balance given.
-fn given_balance(balance: Balance, fault: u32) -> Balance {
-    Balance {
-        total: given_total(balance.total, fault),
-        scale: given_total_scale(balance.scale, fault),
+    match fault {
+        7 => more(scale),
+        6 | 9 => 31,
+        _ => scale,
     }
 }
 
@@ -67,104 +67,45 @@ fn given_balance(balance: Balance, fault: u32) -> Balance {
 fn given_source(drawn: u32, fault: u32) -> i32
     requires { drawn < 2000000000 }
 {
-    if fault == 4 {
-        return -2147483648;
-    }
-    if fault == 5 {
-        return 2000000;
-    }
-    less(drawn, 1500)
-}
-
-// The run after an accepted call.
-fn accepted(run: Run, state: u32, repair: Repair, balance: Balance, length: usize) -> Run {
-    Run {
-        state,
-        accepted: more(run.accepted),
-        refused: run.refused,
-        refused_with_17: run.refused_with_17,
-        balance,
-        length,
-        shared: run.shared % 1000000000000 + repair.shared % 1000000000000,
+    match fault {
+        4 => -2147483648,
+        5 => 2000000,
+        _ => less(drawn, 1500),
     }
 }
 
-// How many were refused with 17, with one more number.
-fn count_17(count: u32, number: u32) -> u32 {
-    if number == 17 { more(count) } else { count }
-}
-
-// The run after a refused call, which leaves the book.
-fn refused(run: Run, state: u32, number: u32, told: usize) -> Run {
-    let balance = run.balance;
-    Run {
-        state,
-        accepted: run.accepted,
-        refused: more(run.refused),
-        refused_with_17: count_17(run.refused_with_17, number),
-        balance,
-        length: told,
-        shared: run.shared,
-    }
-}
-
-// The run after a call that was told the book's length.
-fn counted(run: Run, state: u32, told: usize, answer: Stepped) -> Run {
+// The run after a call that was told the book's length; a refused one leaves the book.
+fn counted(run: Run, state: u32, told: usize, answer: Result<Stepped, Refusal>) -> Run {
     match answer {
-        Stepped::Accepted {
-            repair,
-            balance,
-            length,
-        } => accepted(run, state, repair, balance, length),
-        Stepped::Refused { number, place: _ } => refused(run, state, number, told),
+        Ok(stepped) => Run {
+            state,
+            accepted: more(run.accepted),
+            balance: stepped.balance,
+            length: stepped.length,
+            shared: run.shared % 1000000000000 + stepped.repair.shared % 1000000000000,
+            ..run
+        },
+        Err(refusal) => Run {
+            state,
+            refused: more(run.refused),
+            refused_with_17: if refusal.number == 17 {
+                more(run.refused_with_17)
+            } else {
+                run.refused_with_17
+            },
+            length: told,
+            ..run
+        },
     }
 }
 
 // The length of the book to lend: of the one standing, or of a new one if that has 64 blocks.
 fn lent(total: u32, length: usize, book: &mut [u8; 32768]) -> usize {
     if length < 32768 {
-        return length;
+        length
+    } else {
+        start(total, book)
     }
-    start(total, book)
-}
-
-// Steps by the first m parents, and with a scratch of its own.
-fn step_by(
-    balance: Balance,
-    kept: &mut [u32; 8],
-    source: i32,
-    scale: u32,
-    targets: &[i32; 8],
-    lows: &[u32; 8],
-    highs: &[u32; 8],
-    safe_lows: &[u32; 8],
-    safe_highs: &[u32; 8],
-    weights: &[u32; 8],
-    parents: &[u32; 15],
-    m: usize,
-    book: &mut [u8; 32768],
-    told: usize,
-) -> Stepped
-    requires { m ≤ 15 }
-{
-    let mut scratch = [0i64; 60];
-    let all = &parents[..];
-    kept::step(
-        balance,
-        kept,
-        source,
-        scale,
-        targets,
-        lows,
-        highs,
-        safe_lows,
-        safe_highs,
-        weights,
-        &all[0..m],
-        &mut scratch,
-        book,
-        told,
-    )
 }
 
 // Draws a field and steps by it.
@@ -191,43 +132,35 @@ fn one_call(run: Run, kept: &mut [u32; 8], book: &mut [u8; 32768]) -> Run {
     cross(fault.value == 2, &mut lows, &mut highs);
     let mut parents = [0u32; 15];
     fill_parents(kind.value, fault.value == 3, &mut parents);
-    let balance = run.balance;
-    let told = lent(balance.total, run.length, book);
-    let answer = step_by(
-        given_balance(balance, fault.value),
+    let told = lent(run.balance.total, run.length, book);
+    let field = FieldLists {
+        targets: &targets,
+        lows: &lows,
+        highs: &highs,
+        safe_lows: &safe_lows,
+        safe_highs: &safe_highs,
+        weights: &weights,
+        parents: &parents[..nodes(kind.value)],
+    };
+    let mut scratch = [0i64; 60];
+    let answer = kept::step(
+        given_balance(run.balance, fault.value),
         kept,
         given_source(source.value, fault.value),
         given_scale(run.balance.scale, fault.value),
-        &targets,
-        &lows,
-        &highs,
-        &safe_lows,
-        &safe_highs,
-        &weights,
-        &parents,
-        nodes(kind.value),
+        &field,
+        &mut scratch,
         book,
         told,
     );
     counted(run, fault.state, told, answer)
 }
 
-// Makes 500 calls.
-fn some_calls(run: Run, kept: &mut [u32; 8], book: &mut [u8; 32768]) -> Run {
-    let mut now = run;
-    let mut i: usize = 0;
-    while i < 500 {
-        now = one_call(now, kept, book);
-        i += 1;
-    }
-    now
-}
-
 // Makes 24 times 500 calls, and prints a line after each 500.
-fn all_calls(balance: Balance, kept: &mut [u32; 8]) {
+fn all_calls(balance: Balance, kept: &mut [u32; 8]) -> fmt::Result {
     let mut book = [0u8; 32768];
     let length = start(balance.total, &mut book);
-    let mut now = Run {
+    let mut run = Run {
         state: 1,
         accepted: 0,
         refused: 0,
@@ -236,35 +169,30 @@ fn all_calls(balance: Balance, kept: &mut [u32; 8]) {
         length,
         shared: 0,
     };
-    let mut i: u64 = 0;
-    while i < 24 {
-        now = some_calls(now, kept, &mut book);
-        i += 1;
-        output::show(i * 500, now, kept);
+    for i in 1..=24 {
+        for _ in 0..500 {
+            run = one_call(run, kept, &mut book);
+        }
+        show(i * 500, run, kept)?;
     }
-}
-
-// Opens a field, and prints what Open gave.
-fn show_opening(kept: &[u32], scale: u32) {
-    match kept::open(kept, scale) {
-        Opened::Accepted(balance) => output::show_balance(balance),
-        Opened::Refused { number, place: _ } => output::show_refused(number),
-    }
+    Ok(())
 }
 
 // Makes the openings, and steps from the last one if it is accepted.
-fn main() {
+fn run_all() -> fmt::Result {
     let heavy = [300000000u32; 8];
-    let cells = &heavy[..];
-    show_opening(&cells[0..0], 31);
-    show_opening(&cells[0..8], 31);
-    show_opening(&cells[0..8], 30);
+    show_opening(kept::open(&heavy[..0], 31))?;
+    show_opening(kept::open(&heavy, 31))?;
+    show_opening(kept::open(&heavy, 30))?;
     let mut kept = [1000u32; 8];
-    match kept::open(&kept, 20) {
-        Opened::Accepted(balance) => {
-            output::show_balance(balance);
-            all_calls(balance, &mut kept);
-        }
-        Opened::Refused { number, place: _ } => output::show_refused(number),
+    let opened = kept::open(&kept, 20);
+    show_opening(opened)?;
+    if let Ok(balance) = opened {
+        all_calls(balance, &mut kept)?;
     }
+    Ok(())
+}
+
+fn main() {
+    let _ = run_all();
 }

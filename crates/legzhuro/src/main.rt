@@ -2,8 +2,6 @@
 // more than the largest file has, so that a longer one is refused. Relies on `report`, `text` and the kit's `io`.
 #![tactic(auto)]
 
-use text::Reported;
-
 // The descriptors of standard input and output.
 const STANDARD_INPUT: i32 = 0;
 
@@ -13,7 +11,7 @@ fn main() {
     let mut file = [0u8; 18433];
     let mut out = [0u8; 16384];
     let n = io::read_full(STANDARD_INPUT, &mut file);
-    if let Reported::Text(k) = report::report(&file[..n], &mut out) {
+    if let Ok(k) = report::report(&file[..n], &mut out) {
         io::write_all(STANDARD_OUTPUT, &out[..k]);
     }
 }

@@ -2,8 +2,6 @@
 // a full book has, so that a longer file is refused. Relies on `book_report`, `text` and the kit's `io`.
 #![tactic(auto)]
 
-use text::Reported;
-
 // The descriptors of standard input and output.
 const STANDARD_INPUT: i32 = 0;
 
@@ -13,7 +11,7 @@ fn main() {
     let mut file = [0u8; 32769];
     let mut out = [0u8; 128];
     let n = io::read_full(STANDARD_INPUT, &mut file);
-    if let Reported::Text(k) = book_report::report_book(&file[..n], &mut out) {
+    if let Ok(k) = book_report::report_book(&file[..n], &mut out) {
         io::write_all(STANDARD_OUTPUT, &out[..k]);
     }
 }

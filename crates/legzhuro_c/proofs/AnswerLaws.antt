@@ -1,5 +1,6 @@
 -- What the file call's verdict means: of writing's checks only the buffer's length is left to fail; and what holds of the masses in its answer.
 -- Assumes nothing.
+use Rattle.std.specs.Prelude.{Ok, Err}
 use mathlib.Core.Path.{◌≡◌, refl, sym, ◌∙◌, ap, subst}
 use mathlib.Core.Logic.{inl, inr, ◌↔◌}
 use mathlib.Core.List.{List, [], ◌∷◌}
@@ -8,15 +9,15 @@ use native.Mathlib.Omega.{arith}
 use lib.Dec.{leb}
 use lib.ListN.{length}
 use borrow.Author.Tests.{leb-true, le-leb}
-use Rattle.numbers.specs.declared.Checked.{Checked}
-use Rattle.numbers.specs.declared.Checked.TheVariants.{Pass, Fail}
 use Rattle.numbers.specs.Sums.{ℕ_adds, sum_to}
 use Rattle.numbers.specs.Lists.{at}
-use Rattle.numbers.specs.Checks.{unless, both, first, rule, Broken, DecidesAll, RefuseWith}
+use Rattle.numbers.specs.Checks.{Checked, refused, unless, both, first, rule, Broken, DecidesAll, RefuseWith}
 use Rattle.numbers.proofs.TestLaws.{Tested, holds, fails, tested, clash, le-means}
 use Rattle.numbers.proofs.CheckLaws.{on, last, both_first, both-second, decides-unless, decides-then, decides-none, decides-append}
 use Rattle.numbers.proofs.ChainLaws.{refuse-with, refuse-append}
-use Rattle.qlt_spec.specs.Field.{Outcome, attainable, below, above, field, outcome_number, outcome}
+use Rattle.qlt_spec.specs.Field.{field, outcome_number, outcome}
+use Rattle.qlt_spec.specs.declared.Outcome.{Outcome}
+use Rattle.qlt_spec.specs.declared.Outcome.TheVariants.{Attainable, Below, Above}
 use Rattle.qlt_spec.specs.Facts.{FieldFacts}
 use Rattle.qlt_spec.specs.Operation.{repair}
 use Rattle.qlt_spec.proofs.OperationLaws.{fits-facts}
@@ -31,13 +32,13 @@ use Rattle.legzhuro_c.specs.Calls.{call_verdict, call_rules, CallFits}
 
 number_small : (o : Outcome) → outcome_number o ≤ 2
 unfolding outcome_number
-number_small attainable = omega arith
-number_small below = omega arith
-number_small above = omega arith
+number_small Attainable = omega arith
+number_small Below = omega arith
+number_small Above = omega arith
 
 -- ---- a file that is accepted
 
-module _ (file : List ℕ) (e : file_verdict file ≡ Pass) where
+module _ (file : List ℕ) (e : file_verdict file ≡ Ok tt) where
   head-fits : HeadFits file largest
   head-fits = ((file-accepts file).0 e).read.head
 
@@ -77,7 +78,7 @@ module _ (file answer : List ℕ) where
   Space = 512 * answer_blocks (file_cells file) ≤ length answer
 
   -- past reading and Reconstruct, writing asks for nothing else
-  space-is : file_verdict file ≡ Pass → write_verdict w ≡ unless (leb (512 * answer_blocks (file_cells file)) (length answer)) 3 0
+  space-is : file_verdict file ≡ Ok tt → write_verdict w ≡ unless (leb (512 * answer_blocks (file_cells file)) (length answer)) 3 0
   space-is e = go (tested (leb (512 * answer_blocks (file_cells file)) (length answer)))
     where
       broken : (Space → ⊥) → Broken (write_rules w) 3 0
@@ -96,26 +97,26 @@ module _ (file answer : List ℕ) where
   call-is = go (file_verdict file) refl
     where
       go : (v : Checked) → file_verdict file ≡ v → first (v ∷ write_verdict w ∷ []) ≡ first (v ∷ space ∷ [])
-      go Pass e = ap (λ u. both u Pass) (space-is e)
-      go (Fail number place) e = refl
+      go (Ok tt) e = ap (λ u. both u (Ok tt)) (space-is e)
+      go (Err r) e = refl
 
   -- accepted if every rule holds; refused with a number at a place if those before it hold and this one is broken there
   pub call-decides : DecidesAll (call_verdict file answer) (call_rules file answer)
   call-decides =
       subst (λ v. DecidesAll v (call_rules file answer)) (sym call-is)
       (decides-append (file_verdict file) (first (space ∷ [])) (file_rules file) (rule 3 Space ∷ []) (file-decides file)
-      (decides-then space Pass (rule 3 Space) [] (decides-unless _ 3 (le-means (512 * answer_blocks (file_cells file)) (length answer))) decides-none))
+      (decides-then space (Ok tt) (rule 3 Space) [] (decides-unless _ 3 (le-means (512 * answer_blocks (file_cells file)) (length answer))) decides-none))
 
-  pub call-refuses : (number place : ℕ) → (call_verdict file answer ≡ Fail number place) ↔ Broken (call_rules file answer) number place
+  pub call-refuses : (number place : ℕ) → (call_verdict file answer ≡ refused number place) ↔ Broken (call_rules file answer) number place
   call-refuses = call-decides.fails
 
-  pub call-accepts : (call_verdict file answer ≡ Pass) ↔ CallFits file answer
+  pub call-accepts : (call_verdict file answer ≡ Ok tt) ↔ CallFits file answer
   unfolding call_verdict
   call-accepts = (
     λ e.
         record {
           file_fits = (file-accepts file).0 (both_first (file_verdict file) _ e);
-          space = ((write-accepts w).0 (both_first (write_verdict w) Pass (both-second (file_verdict file) _ e))).space;
+          space = ((write-accepts w).0 (both_first (write_verdict w) (Ok tt) (both-second (file_verdict file) _ e))).space;
         },
     λ h.
         let f = (file-accepts file).1 h.file_fits in

@@ -1,20 +1,19 @@
 -- From an operation's contract to what its call returns and writes, accepted or refused. Assumes nothing.
-use mathlib.Core.Path.{◌≡◌, refl, sym, ◌∙◌, ap, subst}
+use Rattle.std.specs.Prelude.{Ok, Err}
+use mathlib.Core.Path.{◌≡◌, sym, ◌∙◌, ap, subst}
+use Rattle.kept_spec.specs.declared.Stepped.{Stepped}
 use mathlib.Core.List.{List, [], ◌∷◌}
-use Prim.Native.Nat.{ℕ, ◌+◌, ◌*◌, ◌≤◌, ◌<◌, ◌^◌}
+use Prim.Native.Nat.{ℕ, ◌≤◌}
 use lib.IntN.{ℤ}
 use lib.ListN.{length}
 use lib.Ieee.{Float}
 use mir.Syntax.{w64}
 use mir.Val.{to_z, of_z}
-use Rattle.numbers.specs.declared.Checked.{Checked}
-use Rattle.numbers.specs.declared.Checked.TheVariants.{Pass, Fail}
+use Rattle.numbers.specs.declared.Refusal.{Refusal}
 use Rattle.numbers.specs.Lists.{written}
-use Rattle.numbers.specs.Checks.{Answered, accepted, refused, answered, after, both, first, check_count, check_long}
+use Rattle.numbers.specs.Checks.{Checked, Answered, answered, after, both, first, check_count, check_long}
 use Rattle.numbers.proofs.CheckLaws.{answered-accepted, answered-refused, after-pass, after-fail, both_first, both-second, long-decides}
-use Rattle.caas_spec.specs.declared.SplitAnswer.{SplitAnswer}
-use Rattle.caas_spec.specs.declared.SplitAnswer.TheVariants as split
-use Rattle.caas_spec.specs.Operation.{SplitCall, items, split_verdict, split_masses, split_deficit, split_tells, SplitContract}
+use Rattle.caas_spec.specs.Operation.{SplitCall, items, split_verdict, split_masses, split_deficit, SplitContract}
 use Rattle.caas_spec.proofs.OperationLaws.{split-accepts, split-deficit-read}
 use Rattle.qlt_spec.specs.declared.Repair.{Repair}
 use Rattle.qlt_spec.specs.Field.{cells, nodes}
@@ -23,20 +22,15 @@ use Rattle.qlt_spec.specs.Operation.{Leaves}
 use Rattle.qlt_spec.proofs.OperationLaws.{leaves-refused}
 use Rattle.book_spec.specs.LentBook.{grown_buffer}
 use Rattle.kept_spec.specs.declared.Balance.{Balance}
-use Rattle.kept_spec.specs.declared.Opened.{Opened}
-use Rattle.kept_spec.specs.declared.Opened.TheVariants as opened
-use Rattle.kept_spec.specs.declared.Stepped.{Stepped}
-use Rattle.kept_spec.specs.declared.Stepped.TheVariants as stepped
-use Rattle.kept_spec.specs.Open.{open_verdict, open_balance, open_tells, OpenContract}
-use Rattle.kept_spec.specs.Step.{StepCall, repair_call, step_verdict, step_result, step_tells, StepContract, Typed, step_entry}
+use Rattle.kept_spec.specs.Open.{open_verdict, open_balance, OpenContract}
+use Rattle.kept_spec.specs.Step.{StepCall, repair_call, step_verdict, step_result, StepContract, Typed, step_entry}
 use Rattle.doubles_spec.specs.declared.CellDoubles.{CellDoubles}
 use Rattle.doubles_spec.specs.declared.CellUnits.{CellUnits}
-use Rattle.doubles_spec.specs.declared.Imported.{Imported}
-use Rattle.doubles_spec.specs.declared.Imported.TheVariants as imported
-use Rattle.doubles_spec.specs.Import.{import_verdict, import_units, import_tells, ImportContract}
+use Rattle.doubles_spec.specs.declared.ImportRefusal.{ImportRefusal}
+use Rattle.doubles_spec.specs.Import.{Imported, import_verdict, import_units, import_tells, ImportContract}
 use Rattle.doubles_spec.specs.Export.{export_verdict}
 use Rattle.call_values.specs.Values.{returned, open_values, balance_words, step_values, result_words}
-use Rattle.call_values.proofs.ValueLaws.{returned-pass, returned-fail, after-by, room, no_room, first-last}
+use Rattle.call_values.proofs.ValueLaws.{after-by, room, room-refused, first-last}
 use Rattle.legzhuro_c.specs.Calls.{split_call_verdict, SplitReturns, open_call_verdict, OpenReturns, step_call_verdict, StepReturns, import_call_verdict, units_list, ImportReturns, export_call_verdict, ValueReturns}
 
 -- ---- Split
@@ -50,58 +44,56 @@ module _ (c : SplitCall) (deficit : List ℤ) where
   unfolding split_call_verdict
   split-chain = first-last (check_count (items c) ∷ check_long (length deficit) 1 ∷ []) (split_verdict c)
 
-  pub split-shape-refused : {r number place : ℕ} → split_shape c deficit ≡ Fail number place → r ≡ number + place * 2 ^ 32 → SplitReturns c deficit r c.masses deficit
-  split-shape-refused e z =
+  pub split-shape-refused : {refusal : Refusal} → split_shape c deficit ≡ Err refusal → SplitReturns c deficit (returned (Err refusal)) c.masses deficit
+  split-shape-refused e =
       let v = split-chain ∙ ap (λ w. both w (split_verdict c)) e in
-      record { returns = returned-fail v z; writes = after-fail _ c.masses v; tells = after-fail _ deficit v }
+      record { returns = ap returned (sym v); writes = after-fail _ c.masses v; tells = after-fail _ deficit v }
 
-  module _ (e : split_shape c deficit ≡ Pass) where
+  module _ (e : split_shape c deficit ≡ Ok tt) where
     -- a call that passes them has room for d
     pub split-room : 1 ≤ length deficit
-    split-room = (long-decides (length deficit) 1).passes.0 (both_first _ Pass (both-second (check_count (items c)) _ e))
+    split-room = (long-decides (length deficit) 1).passes.0 (both_first _ (Ok tt) (both-second (check_count (items c)) _ e))
 
     split-past : split_call_verdict c deficit ≡ split_verdict c
     split-past = split-chain ∙ ap (λ w. both w (split_verdict c)) e
 
-    module _ {a : SplitAnswer} {masses : List ℤ} (p : SplitContract c a masses) where
+    module _ {a : Answered ℤ} {masses : List ℤ} (p : SplitContract c a masses) where
       split-writes : masses ≡ after (split_call_verdict c deficit) (split_masses c) c.masses
       split-writes = p.writes ∙ after-by (split_masses c) c.masses (sym split-past)
 
-      pub split_done : {d : ℤ} {r : ℕ} {deficit' : List ℤ} → a ≡ split.Done d → r ≡ 0 → deficit' ≡ written deficit 0 (to_z w64 (of_z w64 d) ∷ []) → SplitReturns c deficit r masses deficit'
-      unfolding split_tells
-      split_done {d} s z w =
-          let t = answered-accepted (split_verdict c) d (split_deficit c) (ap split_tells (sym s) ∙ p.answers) in
+      pub split_done : {d : ℤ} {deficit' : List ℤ} → a ≡ Ok d → deficit' ≡ written deficit 0 (to_z w64 (of_z w64 d) ∷ []) → SplitReturns c deficit 0 masses deficit'
+      split_done {d} s w =
+          let t = answered-accepted (split_verdict c) d (split_deficit c) (sym s ∙ p.answers) in
           let v = split-past ∙ t.0 in
-          record { returns = returned-pass v z; writes = split-writes; tells = after-pass deficit v (w ∙ ap (λ x. written deficit 0 (x ∷ [])) (split-deficit-read c ((split-accepts c).0 t.0) t.1)) }
+          record { returns = ap returned (sym v); writes = split-writes; tells = after-pass deficit v (w ∙ ap (λ x. written deficit 0 (x ∷ [])) (split-deficit-read c ((split-accepts c).0 t.0) t.1)) }
 
-      pub split-refused : {r number place : ℕ} → a ≡ split.Refused number place → r ≡ number + place * 2 ^ 32 → SplitReturns c deficit r masses deficit
-      unfolding split_tells
-      split-refused {number = number} {place = place} s z =
-          let v = split-past ∙ answered-refused (split_verdict c) (split_deficit c) number place (ap split_tells (sym s) ∙ p.answers) in
-          record { returns = returned-fail v z; writes = split-writes; tells = after-fail _ deficit v }
+      pub split-refused : {refusal : Refusal} → a ≡ Err refusal → SplitReturns c deficit (returned (Err refusal)) masses deficit
+      split-refused s =
+          let v = split-past ∙ answered-refused (split_verdict c) (split_deficit c) _ _ (sym s ∙ p.answers) in
+          record { returns = ap returned (sym v); writes = split-writes; tells = after-fail _ deficit v }
 
 -- ---- Open
 
 module _ (kept : List ℕ) (k : ℕ) (answer : List ℕ) where
-  pub open-no-room : length answer < open_values → OpenReturns kept k answer 3 answer
+  pub open-no-room : {refusal : Refusal} → check_long (length answer) open_values ≡ Err refusal → OpenReturns kept k answer (returned (Err refusal)) answer
   unfolding open_call_verdict
   open-no-room h =
-      let v = no_room (length answer) open_values (open_verdict kept k) h in
+      let v = room-refused (length answer) open_values (open_verdict kept k) h in
       record { returns = ap returned (sym v); writes = after-fail _ answer v }
 
-  module _ {a : Opened} (p : OpenContract kept k a) (h : open_values ≤ length answer) where
-    pub open_done : {b : Balance} {r : ℕ} {answer' : List ℕ} → a ≡ opened.Accepted b → r ≡ 0 → answer' ≡ written answer 0 (balance_words b) → OpenReturns kept k answer r answer'
-    unfolding open_tells open_call_verdict
-    open_done {b} e z w =
-        let t = answered-accepted (open_verdict kept k) b (open_balance kept k) (ap open_tells (sym e) ∙ p.answers) in
+  module _ {a : Answered Balance} (p : OpenContract kept k a) (h : open_values ≤ length answer) where
+    pub open_done : {b : Balance} {answer' : List ℕ} → a ≡ Ok b → answer' ≡ written answer 0 (balance_words b) → OpenReturns kept k answer 0 answer'
+    unfolding open_call_verdict
+    open_done {b} e w =
+        let t = answered-accepted (open_verdict kept k) b (open_balance kept k) (sym e ∙ p.answers) in
         let v = room (length answer) open_values (open_verdict kept k) h ∙ t.0 in
-        record { returns = returned-pass v z; writes = after-pass answer v (w ∙ ap (λ x. written answer 0 (balance_words x)) t.1) }
+        record { returns = ap returned (sym v); writes = after-pass answer v (w ∙ ap (λ x. written answer 0 (balance_words x)) t.1) }
 
-    pub open-refused : {r number place : ℕ} → a ≡ opened.Refused number place → r ≡ number + place * 2 ^ 32 → OpenReturns kept k answer r answer
-    unfolding open_tells open_call_verdict
-    open-refused {number = number} {place = place} e z =
-        let v = room (length answer) open_values (open_verdict kept k) h ∙ answered-refused (open_verdict kept k) (open_balance kept k) number place (ap open_tells (sym e) ∙ p.answers) in
-        record { returns = returned-fail v z; writes = after-fail _ answer v }
+    pub open-refused : {refusal : Refusal} → a ≡ Err refusal → OpenReturns kept k answer (returned (Err refusal)) answer
+    unfolding open_call_verdict
+    open-refused e =
+        let v = room (length answer) open_values (open_verdict kept k) h ∙ answered-refused (open_verdict kept k) (open_balance kept k) _ _ (sym e ∙ p.answers) in
+        record { returns = ap returned (sym v); writes = after-fail _ answer v }
 
 -- ---- Step
 
@@ -116,23 +108,23 @@ module _ (c : StepCall) (answer : List ℕ) where
       first-last (check_count (cells c.lists) ∷ check_nodes (cells c.lists) (nodes c.lists) ∷ check_long (length answer) step_values ∷ []) (step_verdict c)
 
   pub step-shape-refused :
-      {r number place : ℕ} → Typed c → step_shape c answer ≡ Fail number place → r ≡ number + place * 2 ^ 32
-      → StepReturns c answer r c.kept c.scratch c.book answer
-  step-shape-refused y e z =
+      {refusal : Refusal} → Typed c → step_shape c answer ≡ Err refusal
+      → StepReturns c answer (returned (Err refusal)) c.kept c.scratch c.book answer
+  step-shape-refused y e =
       let v = step-chain ∙ ap (λ w. both w (step_verdict c)) e in
-      record { typed = y; returns = returned-fail v z; leaves = leaves-refused (repair_call c) v; files = after-fail _ c.book v; writes = after-fail _ answer v }
+      record { typed = y; returns = ap returned (sym v); leaves = leaves-refused (repair_call c) v; files = after-fail _ c.book v; writes = after-fail _ answer v }
 
-  module _ (e : step_shape c answer ≡ Pass) where
+  module _ (e : step_shape c answer ≡ Ok tt) where
     -- a call that passes them has room for its values
     pub step_room : step_values ≤ length answer
     step_room =
         (long-decides (length answer) step_values).passes.0
-        (both_first _ Pass (both-second (check_nodes (cells c.lists) (nodes c.lists)) _ (both-second (check_count (cells c.lists)) _ e)))
+        (both_first _ (Ok tt) (both-second (check_nodes (cells c.lists) (nodes c.lists)) _ (both-second (check_count (cells c.lists)) _ e)))
 
     past-shape : step_call_verdict c answer ≡ step_verdict c
     past-shape = step-chain ∙ ap (λ w. both w (step_verdict c)) e
 
-    module _ (a : Stepped) {kept : List ℕ} {scratch : List ℤ} {book : List ℕ} (p : StepContract c a kept scratch book) where
+    module _ (a : Answered Stepped) {kept : List ℕ} {scratch : List ℤ} {book : List ℕ} (p : StepContract c a kept scratch book) where
       leaves-on : Leaves (step_call_verdict c answer) (repair_call c) kept scratch
       leaves-on = subst (λ v. Leaves v (repair_call c) kept scratch) (sym past-shape) p.tells.leaves
 
@@ -140,79 +132,68 @@ module _ (c : StepCall) (answer : List ℕ) where
       files-on = p.files ∙ ap (λ v. after v (grown_buffer c.book c.length (step_entry c)) c.book) (sym past-shape)
 
       pub step-done :
-          {x : Repair} {b : Balance} {l r : ℕ} {answer' : List ℕ} → a ≡ stepped.Accepted x b l → r ≡ 0 → answer' ≡ written answer 0 (result_words x l)
-          → StepReturns c answer r kept scratch book answer'
-      unfolding step_tells
-      step-done {x} {b} {l} s z w =
-          let t = answered-accepted (step_verdict c) (record { repair = x; balance = b; length = l }) (step_result c) (ap step_tells (sym s) ∙ p.tells.answers) in
+          {x : Repair} {b : Balance} {l : ℕ} {answer' : List ℕ} → a ≡ Ok (record { repair = x; balance = b; length = l }) → answer' ≡ written answer 0 (result_words x l)
+          → StepReturns c answer 0 kept scratch book answer'
+      step-done {x} {b} {l} s w =
+          let t = answered-accepted (step_verdict c) (record { repair = x; balance = b; length = l }) (step_result c) (sym s ∙ p.tells.answers) in
           let v = past-shape ∙ t.0 in
           record {
             typed = p.typed;
-            returns = returned-pass v z;
+            returns = ap returned (sym v);
             leaves = leaves-on;
             files = files-on;
             writes = after-pass answer v (w ∙ ap (λ y. written answer 0 (result_words y.repair y.length)) t.1);
           }
 
-      pub step-refused : {r number place : ℕ} → a ≡ stepped.Refused number place → r ≡ number + place * 2 ^ 32 → StepReturns c answer r kept scratch book answer
-      unfolding step_tells
-      step-refused {number = number} {place = place} s z =
-          let v = past-shape ∙ answered-refused (step_verdict c) (step_result c) number place (ap step_tells (sym s) ∙ p.tells.answers) in
-          record { typed = p.typed; returns = returned-fail v z; leaves = leaves-on; files = files-on; writes = after-fail _ answer v }
+      pub step-refused : {refusal : Refusal} → a ≡ Err refusal → StepReturns c answer (returned (Err refusal)) kept scratch book answer
+      step-refused s =
+          let v = past-shape ∙ answered-refused (step_verdict c) (step_result c) _ _ (sym s ∙ p.tells.answers) in
+          record { typed = p.typed; returns = ap returned (sym v); leaves = leaves-on; files = files-on; writes = after-fail _ answer v }
 
 -- ---- Import
 
 module _ (c : CellDoubles) (k : ℕ) (units : List ℤ) where
-  pub import-no-room : length units < 5 → ImportReturns c k units 3 units
+  pub import-no-room : {refusal : Refusal} → check_long (length units) 5 ≡ Err refusal → ImportReturns c k units (returned (Err refusal)) units
   unfolding import_call_verdict
   import-no-room h =
-      let v = no_room (length units) 5 (import_verdict c k) h in
+      let v = room-refused (length units) 5 (import_verdict c k) h in
       record { returns = ap returned (sym v); writes = after-fail _ units v }
 
   module _ {a : Imported} (p : ImportContract c k a) (h : 5 ≤ length units) where
-    pub import-done :
-        {x : CellUnits} {r : ℕ} {units' : List ℤ} → a ≡ imported.Units x → r ≡ 0 → units' ≡ written units 0 (units_list x) → ImportReturns c k units r units'
+    pub import-done : {x : CellUnits} {units' : List ℤ} → a ≡ Ok x → units' ≡ written units 0 (units_list x) → ImportReturns c k units 0 units'
     unfolding import_tells import_call_verdict
-    import-done {x} e z w =
+    import-done {x} e w =
         let t = answered-accepted (import_verdict c k) x (import_units c k) (ap import_tells (sym e) ∙ p.answers) in
         let v = room (length units) 5 (import_verdict c k) h ∙ t.0 in
-        record { returns = returned-pass v z; writes = after-pass units v (w ∙ ap (λ y. written units 0 (units_list y)) t.1) }
+        record { returns = ap returned (sym v); writes = after-pass units v (w ∙ ap (λ y. written units 0 (units_list y)) t.1) }
 
     -- a refusal, of the scale or of a field, by what it tells
-    import-told : {r number place : ℕ} → import_tells a ≡ refused number place → r ≡ number + place * 2 ^ 32 → ImportReturns c k units r units
+    pub import-refused : {refused : ImportRefusal} {refusal : Refusal} → a ≡ Err refused → Err refusal ≡ import_tells (Err refused) → ImportReturns c k units (returned (Err refusal)) units
     unfolding import_call_verdict
-    import-told {number = number} {place = place} e z =
-        let v = room (length units) 5 (import_verdict c k) h ∙ answered-refused (import_verdict c k) (import_units c k) number place (sym e ∙ p.answers) in
-        record { returns = returned-fail v z; writes = after-fail _ units v }
-
-    pub import-bad-scale : a ≡ imported.BadScale → ImportReturns c k units 9 units
-    unfolding import_tells
-    import-bad-scale e = import-told (ap import_tells e) refl
-
-    pub import-refused : {r number place : ℕ} {double : Float} → a ≡ imported.Refused number place double → r ≡ number + place * 2 ^ 32 → ImportReturns c k units r units
-    unfolding import_tells
-    import-refused e z = import-told (ap import_tells e) z
+    import-refused e t =
+        let v = room (length units) 5 (import_verdict c k) h ∙ answered-refused (import_verdict c k) (import_units c k) _ _ (t ∙ ap import_tells (sym e) ∙ p.answers) in
+        record { returns = ap returned (sym v); writes = after-fail _ units v }
 
 -- ---- Export, as a double and as a binary32
 
 module _ (mass k : ℕ) (x : Float) (value : List Float) where
-  pub value-no-room : length value < 1 → ValueReturns mass k x value 3 value
+  pub value-no-room : {refusal : Refusal} → check_long (length value) 1 ≡ Err refusal → ValueReturns mass k x value (returned (Err refusal)) value
   unfolding export_call_verdict
   value-no-room h =
-      let v = no_room (length value) 1 (export_verdict mass k) h in
+      let v = room-refused (length value) 1 (export_verdict mass k) h in
       record { returns = ap returned (sym v); writes = after-fail _ value v }
 
   -- by what the operation's answer tells
   module _ {a : Answered Float} (p : a ≡ answered (export_verdict mass k) x) (h : 1 ≤ length value) where
-    pub value-done : {y : Float} {r : ℕ} {value' : List Float} → a ≡ accepted y → r ≡ 0 → value' ≡ written value 0 (y ∷ []) → ValueReturns mass k x value r value'
+    pub value-done : {y : Float} {value' : List Float} → a ≡ Ok y → value' ≡ written value 0 (y ∷ []) → ValueReturns mass k x value 0 value'
     unfolding export_call_verdict
-    value-done {y} e z w =
+    value-done {y} e w =
         let t = answered-accepted (export_verdict mass k) y x (sym e ∙ p) in
         let v = room (length value) 1 (export_verdict mass k) h ∙ t.0 in
-        record { returns = returned-pass v z; writes = after-pass value v (w ∙ ap (λ u. written value 0 (u ∷ [])) t.1) }
+        record { returns = ap returned (sym v); writes = after-pass value v (w ∙ ap (λ u. written value 0 (u ∷ [])) t.1) }
 
-    pub value-refused : {r number place : ℕ} → a ≡ refused number place → r ≡ number + place * 2 ^ 32 → ValueReturns mass k x value r value
+    pub value-refused : {refusal : Refusal} → a ≡ Err refusal → ValueReturns mass k x value (returned (Err refusal)) value
     unfolding export_call_verdict
-    value-refused {number = number} {place = place} e z =
-        let v = room (length value) 1 (export_verdict mass k) h ∙ answered-refused (export_verdict mass k) x number place (sym e ∙ p) in
-        record { returns = returned-fail v z; writes = after-fail _ value v }
+    value-refused e =
+        let v = room (length value) 1 (export_verdict mass k) h ∙ answered-refused (export_verdict mass k) x _ _ (sym e ∙ p) in
+        record { returns = ap returned (sym v); writes = after-fail _ value v }

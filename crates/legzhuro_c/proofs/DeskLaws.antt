@@ -1,66 +1,55 @@
 -- The calls that write a field file and read an answer file: from the operation's contract to what the call returns and writes, and back.
 -- Assumes nothing.
+use Rattle.std.specs.Prelude.{Ok, Err}
 use mathlib.Core.Path.{◌≡◌, refl, sym, ◌∙◌, ap, subst}
+use Rattle.files_spec.specs.declared.Repaired.{Repaired}
 use mathlib.Core.Logic.{◌↔◌}
 use mathlib.Core.List.{List, ◌++◌}
-use Prim.Native.Nat.{ℕ, ◌+◌, ◌*◌, ◌-◌, ◌≤◌, ◌<◌, ◌^◌}
+use Prim.Native.Nat.{ℕ, ◌*◌, ◌-◌, ◌≤◌, ◌<◌}
 use native.Mathlib.Nat.{sub-zero}
 use native.Mathlib.Decide.{dec_lt}
 use native.Mathlib.Omega.{arith}
 use borrow.Author.Tests.{le-leb, lt-leb}
 use lib.ListN.{length, take, drop, take-append-drop}
 use lib.Seq.{length-take-le}
-use Rattle.numbers.specs.declared.Checked.{Checked}
-use Rattle.numbers.specs.declared.Checked.TheVariants.{Pass, Fail}
+use Rattle.numbers.specs.declared.Refusal.{Refusal}
 use Rattle.numbers.specs.Lists.{written}
-use Rattle.numbers.specs.Checks.{Answered, accepted, refused}
+use Rattle.numbers.specs.Checks.{Checked, Answered}
 use Rattle.numbers.proofs.CheckLaws.{answered-accepted, answered-refused, after-pass, after-fail}
 use Rattle.numbers.proofs.PartLaws.{part-written}
 use Rattle.qlt_spec.specs.declared.Repair.{Repair}
 use Rattle.files_spec.specs.FieldFile.{field_blocks}
-use Rattle.files_spec.specs.WriteField.{FieldWriteCall, field_write_verdict, field_write_tells, field_written_of, FieldWriteContract}
-use Rattle.files_spec.specs.AnswerFile.{Repaired}
-use Rattle.files_spec.specs.ReadAnswer.{answer_cells, answer_masses, answer_read_verdict, AnswerReadFits, answer_of, answer_read_tells, answer_read_of, AnswerReadContract}
-use Rattle.files_spec.specs.declared.FieldWritten.{FieldWritten}
-use Rattle.files_spec.specs.declared.FieldWritten.TheVariants as field-written
-use Rattle.files_spec.specs.declared.AnswerRead.{AnswerRead}
-use Rattle.files_spec.specs.declared.AnswerRead.TheVariants as answer-read
+use Rattle.files_spec.specs.WriteField.{FieldWriteCall, field_write_verdict, FieldWriteContract}
+use Rattle.files_spec.specs.ReadAnswer.{answer_cells, answer_masses, answer_read_verdict, AnswerReadFits, answer_of, AnswerReadContract}
 use Rattle.files_spec.proofs.WriteFieldLaws.{field-write-decides, field-write-numbers}
 use Rattle.files_spec.proofs.ReadAnswerLaws.{length-masses, answer-read-decides, answer-read-numbers, answer-read-accepts, answer-read-done, answer-read-refused}
 use Rattle.call_values.specs.Values.{returned, told_by}
-use Rattle.call_values.proofs.ValueLaws.{returned-pass, returned-fail, after-by, Numbered, told-own, numbered}
+use Rattle.call_values.proofs.ValueLaws.{after-by, Numbered, told-own, numbered}
 use Rattle.legzhuro_c.specs.FileCalls.{WriteFieldReturns, read_values, answer_room, read_answer_verdict, ReadAnswerFits, repaired_words, ReadAnswerReturns, repaired_in}
 
 -- ---- Write a field file
 
-module _ {c : FieldWriteCall} {a : FieldWritten} {buffer : List ℕ} (p : FieldWriteContract c a buffer) where
-  pub write-field-done : {l : ℕ} → a ≡ field-written.Bytes l → WriteFieldReturns c 0 buffer
-  unfolding field_write_tells
+module _ {c : FieldWriteCall} {a : Answered ℕ} {buffer : List ℕ} (p : FieldWriteContract c a buffer) where
+  pub write-field-done : {l : ℕ} → a ≡ Ok l → WriteFieldReturns c 0 buffer
   write-field-done {l} e =
-      let v = (answered-accepted (field_write_verdict c) l (512 * field_blocks c.cells c.nodes) (ap field_write_tells (sym e) ∙ p.answers)).0 in
+      let v = (answered-accepted (field_write_verdict c) l (512 * field_blocks c.cells c.nodes) (sym e ∙ p.answers)).0 in
       record { typed = p.typed; returns = ap returned (sym v); writes = p.writes }
 
-  pub write-field-refused : {r number place : ℕ} → a ≡ field-written.Refused number place → r ≡ number + place * 2 ^ 32 → WriteFieldReturns c r buffer
-  unfolding field_write_tells
-  write-field-refused {number = number} {place = place} e z =
-      let v = answered-refused (field_write_verdict c) (512 * field_blocks c.cells c.nodes) number place (ap field_write_tells (sym e) ∙ p.answers) in
-      record { typed = p.typed; returns = returned-fail v z; writes = p.writes }
+  pub write-field-refused : {refusal : Refusal} → a ≡ Err refusal → WriteFieldReturns c (returned (Err refusal)) buffer
+  write-field-refused e =
+      let v = answered-refused (field_write_verdict c) (512 * field_blocks c.cells c.nodes) _ _ (sym e ∙ p.answers) in
+      record { typed = p.typed; returns = ap returned (sym v); writes = p.writes }
 
 -- the call has the operation's own contract
 pub write-field-numbered : (c : FieldWriteCall) → Numbered (field_write_verdict c)
 write-field-numbered c = numbered _ (field-write-decides c) (field-write-numbers c) refl
 
-write-field-tells : (a : Answered ℕ) → field_write_tells (field_written_of a) ≡ a
-unfolding field_write_tells field_written_of
-write-field-tells (accepted l) = refl
-write-field-tells (refused number place) = refl
-
-pub write-field-own : (c : FieldWriteCall) (r : ℕ) (buffer : List ℕ) → WriteFieldReturns c r buffer → FieldWriteContract c (field_written_of (told_by r (512 * field_blocks c.cells c.nodes))) buffer
+pub write-field-own : (c : FieldWriteCall) (r : ℕ) (buffer : List ℕ) → WriteFieldReturns c r buffer → FieldWriteContract c (told_by r (512 * field_blocks c.cells c.nodes)) buffer
 write-field-own c r buffer q =
     let l : ℕ = 512 * field_blocks c.cells c.nodes in
     record {
       typed = q.typed;
-      answers = write-field-tells (told_by r l) ∙ told-own (field_write_verdict c) r l l (write-field-numbered c) q.returns (λ e. refl);
+      answers = told-own (field_write_verdict c) r l l (write-field-numbered c) q.returns (λ e. refl);
       writes = q.writes;
     }
 
@@ -88,7 +77,7 @@ room_in masses answer = go (dec_lt answer read_values)
     go (no l) = omega (arith, room-long masses answer (omega arith))
 
 -- a call is accepted exactly if the operation is and there is room for the values
-pub read-answer-accepts : (file masses answer : List ℕ) → (read_answer_verdict file masses answer ≡ Pass) ↔ ReadAnswerFits file masses answer
+pub read-answer-accepts : (file masses answer : List ℕ) → (read_answer_verdict file masses answer ≡ Ok tt) ↔ ReadAnswerFits file masses answer
 unfolding read_answer_verdict
 read-answer-accepts file masses answer =
     let k : ℕ = answer_room (length masses) (length answer) in
@@ -109,11 +98,11 @@ module _ (file masses answer : List ℕ) (k : ℕ) (d : k ≡ answer_room (lengt
   unfolding read_answer_verdict
   same = ap (answer_read_verdict file) (lent ∙ d)
 
-  module _ {a : AnswerRead} {part : List ℕ} (part-read : AnswerReadContract file (take (k - 0) masses) a part) where
+  module _ {a : Answered Repaired} {part : List ℕ} (part-read : AnswerReadContract file (take (k - 0) masses) a part) where
     p : AnswerReadContract file (take k masses) a part
     p = subst (λ i. AnswerReadContract file (take i masses) a part) (sub-zero k) part-read
 
-    module _ {n : ℕ} {x : Repair} (e : a ≡ answer-read.Read n x) where
+    module _ {n : ℕ} {x : Repair} (e : a ≡ Ok (record { cells = n; repair = x })) where
       done : AnswerReadFits file (length (take k masses)) × ((n ≡ answer_cells file) × ((x ≡ (answer_of file).repair) × (part ≡ written (take k masses) 0 (answer_masses file))))
       done = answer-read-done (subst (λ b. AnswerReadContract file (take k masses) b part) e p)
 
@@ -122,28 +111,28 @@ module _ (file masses answer : List ℕ) (k : ℕ) (d : k ≡ answer_room (lengt
       read-answer-room = let f = done.0.head in room-some (length masses) (length answer) (answer_cells file) f.some (omega (arith, f.room_for, lent))
 
       pub read-answer-done :
-          {r : ℕ} {answer' : List ℕ} → r ≡ 0 → answer' ≡ written answer 0 (repaired_words (record { cells = n; repair = x }))
-          → ReadAnswerReturns file masses answer r (part ++ drop (k - 0) masses) answer'
-      read-answer-done z w =
+          {answer' : List ℕ} → answer' ≡ written answer 0 (repaired_words (record { cells = n; repair = x }))
+          → ReadAnswerReturns file masses answer 0 (part ++ drop (k - 0) masses) answer'
+      read-answer-done w =
           let f = done in
           let v = sym same ∙ (answer-read-accepts file (length (take k masses))).1 f.0 in
           let l : length (answer_masses file) ≤ k = omega (arith, length-masses file, f.0.head.room_for, lent) in
           record {
             bytes = p.bytes;
-            returns = returned-pass v z;
+            returns = ap returned (sym v);
             writes = after-pass masses v (rw (sub-zero k, f.1.1.1) (part-written k masses (answer_masses file) l));
             tells = after-pass answer v (w ∙ rw (f.1.0, f.1.1.0));
           }
 
     pub read-answer-refused :
-        {r number place : ℕ} → a ≡ answer-read.Refused number place → r ≡ number + place * 2 ^ 32
-        → ReadAnswerReturns file masses answer r (part ++ drop (k - 0) masses) answer
-    read-answer-refused e z =
+        {refusal : Refusal} → a ≡ Err refusal
+        → ReadAnswerReturns file masses answer (returned (Err refusal)) (part ++ drop (k - 0) masses) answer
+    read-answer-refused e =
         let f = answer-read-refused (subst (λ b. AnswerReadContract file (take k masses) b part) e p) in
         let v = sym same ∙ f.0 in
         record {
           bytes = p.bytes;
-          returns = returned-fail v z;
+          returns = ap returned (sym v);
           writes = rw (sub-zero k, f.1) (take-append-drop k masses) ∙ after-fail _ masses v;
           tells = after-fail _ answer v;
         }
@@ -152,17 +141,12 @@ module _ (file masses answer : List ℕ) (k : ℕ) (d : k ≡ answer_room (lengt
 pub read-answer-numbered : (file : List ℕ) (k : ℕ) → Numbered (answer_read_verdict file k)
 read-answer-numbered file k = numbered _ (answer-read-decides file k) (answer-read-numbers file k) refl
 
-read-answer-tells : (a : Answered Repaired) → answer_read_tells (answer_read_of a) ≡ a
-unfolding answer_read_tells answer_read_of
-read-answer-tells (accepted x) = refl
-read-answer-tells (refused number place) = refl
-
 repaired-read : (answer : List ℕ) (x : Repaired) → repaired_in (written answer 0 (repaired_words x)) ≡ x
 unfolding written
 repaired-read answer x = refl
 
 module _ (file masses answer : List ℕ) (r : ℕ) (masses' answer' : List ℕ) (q : ReadAnswerReturns file masses answer r masses' answer') where
-  pub read-answer-own : read_values ≤ length answer → AnswerReadContract file masses (answer_read_of (told_by r (repaired_in answer'))) masses'
+  pub read-answer-own : read_values ≤ length answer → AnswerReadContract file masses (told_by r (repaired_in answer')) masses'
   unfolding read_answer_verdict
   read-answer-own h =
       let v : read_answer_verdict file masses answer ≡ answer_read_verdict file (length masses) = ap (answer_read_verdict file) (room-long (length masses) (length answer) h) in
@@ -170,8 +154,7 @@ module _ (file masses answer : List ℕ) (r : ℕ) (masses' answer' : List ℕ) 
       record {
         bytes = q.bytes;
         answers =
-            read-answer-tells (told_by r (repaired_in answer'))
-            ∙ told-own (answer_read_verdict file (length masses)) r (repaired_in answer') x (read-answer-numbered file (length masses)) (q.returns ∙ ap returned v)
+            told-own (answer_read_verdict file (length masses)) r (repaired_in answer') x (read-answer-numbered file (length masses)) (q.returns ∙ ap returned v)
             (λ e. ap repaired_in (q.tells ∙ after-by (written answer 0 (repaired_words x)) answer (v ∙ e)) ∙ repaired-read answer x);
         writes = q.writes ∙ after-by (written masses 0 (answer_masses file)) masses v;
       }
@@ -180,7 +163,7 @@ module _ (file masses answer : List ℕ) (r : ℕ) (masses' answer' : List ℕ) 
   read-answer-short h = go (read_answer_verdict file masses answer) refl
     where
       go : (v : Checked) → read_answer_verdict file masses answer ≡ v → (0 < r) × ((masses' ≡ masses) × (answer' ≡ answer))
-      go Pass e = absurd (omega (arith, ((read-answer-accepts file masses answer).0 e).values))
-      go (Fail number place) e =
-          let n = read-answer-numbered file (answer_room (length masses) (length answer)) number place (unfold read_answer_verdict in e) in
+      go (Ok tt) e = absurd (omega (arith, ((read-answer-accepts file masses answer).0 e).values))
+      go (Err r) e =
+          let n = read-answer-numbered file (answer_room (length masses) (length answer)) r.number r.place (unfold read_answer_verdict in e) in
           (omega (arith, q.returns ∙ ap returned e, n.0), (q.writes ∙ after-by _ masses e, q.tells ∙ after-by _ answer e))

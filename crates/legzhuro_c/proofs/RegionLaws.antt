@@ -1,14 +1,13 @@
 -- Edits stay in their region, of two calls on files and of two steps from C, from their contracts alone. Assumes nothing.
+use Rattle.std.specs.Prelude.{Ok, Err}
 use mathlib.Core.Path.{◌≡◌, refl, sym, ◌∙◌, ap, subst}
 use mathlib.Core.List.{List, [], ◌∷◌}
 use Prim.Native.Nat.{ℕ, ◌*◌, ◌≤◌}
 use lib.Dec.{leb}
 use lib.IntN.{ℤ}
 use lib.ListN.{length}
-use Rattle.numbers.specs.declared.Checked.{Checked}
-use Rattle.numbers.specs.declared.Checked.TheVariants.{Pass, Fail}
 use Rattle.numbers.specs.Lists.{written}
-use Rattle.numbers.specs.Checks.{after, unless, first}
+use Rattle.numbers.specs.Checks.{Checked, after, unless, first}
 use Rattle.numbers.proofs.CheckLaws.{both_first}
 use Rattle.qlt_spec.specs.Field.{field}
 use Rattle.files_spec.specs.ReadField.{file_cells, file_lists}
@@ -17,9 +16,8 @@ use Rattle.files_spec.proofs.FrontLaws.{held-sized}
 use Rattle.repair_file.specs.RepairFile.{file_verdict, file_repair, file_masses}
 use Rattle.repair_file.specs.Region.{EditedFile}
 use Rattle.repair_file.proofs.RegionLaws.{file-region}
-use Rattle.kept_spec.specs.Step.{StepCall, step_tells, step_answer}
+use Rattle.kept_spec.specs.Step.{StepCall}
 use Rattle.kept_spec.specs.Region.{EditedStep, SameSteps}
-use Rattle.kept_spec.proofs.StepLaws.{answer-tells}
 use Rattle.kept_spec.proofs.RegionLaws.{step-region}
 use Rattle.call_values.specs.Values.{told_by, step_values, result_in}
 use Rattle.legzhuro_c.specs.Calls.{call_verdict, number_of, ReconstructReturns, StepReturns}
@@ -59,16 +57,16 @@ module _ {file edited : List ℕ} {v : ℕ} (h : EditedFile file edited v) (answ
       filed f n a = written a 0 (answer_bytes n (file_repair f) (file_masses f))
 
       go : (w : Checked) → call_verdict file answer ≡ w → Same r q
-      go Pass e =
-          told Pass e
+      go (Ok tt) e =
+          told (Ok tt) e
           (both_written
           (k.writes ∙ ap (λ u. after u (filed file (file_cells file) answer) answer) e ∙ ap (λ n. filed file n answer) cells_are)
           (l.writes
           ∙ ap (λ u. after u (filed edited (file_cells edited) answer') answer') (sym call-verdict-same ∙ e)
           ∙ ap (λ n. filed edited n answer') (sym (file-region h).cells ∙ cells_are))
           ((file-region h).repair (both_first (file_verdict file) _ (sym (call-is file answer) ∙ e))))
-      go (Fail number place) e =
-          told (Fail number place) e
+      go (Err r) e =
+          told (Err r) e
           (both_refused
           (k.writes ∙ ap (λ u. after u (filed file (file_cells file) answer) answer) e)
           (l.writes ∙ ap (λ u. after u (filed edited (file_cells edited) answer') answer') (sym call-verdict-same ∙ e)))
@@ -81,8 +79,5 @@ pub step-call-region :
     → StepReturns c answer r xs scratch book left → StepReturns d answer' q ys scratch' book' left'
     → SameSteps (field c.lists) v (told_by r (result_in c left)) (told_by q (result_in d left')) xs ys book book'
 step-call-region c d {v} h answer answer' long long' r q xs ys scratch scratch' book book' left left' k l =
-    let one = told_by r (result_in c left) in
-    let other = told_by q (result_in d left') in
-    subst (λ a. SameSteps (field c.lists) v a other xs ys book book') (answer-tells one)
-    (subst (λ b. SameSteps (field c.lists) v (step_tells (step_answer one)) b xs ys book book') (answer-tells other)
-    (step-region c d h (step_answer one) (step_answer other) (step-own c answer r xs scratch book left long k) (step-own d answer' q ys scratch' book' left' long' l)))
+    step-region c d h (told_by r (result_in c left)) (told_by q (result_in d left')) (step-own c answer r xs scratch book left long k)
+    (step-own d answer' q ys scratch' book' left' long' l)

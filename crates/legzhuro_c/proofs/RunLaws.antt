@@ -1,5 +1,6 @@
 -- Runs of the calls from C are runs of Step, so the theorem about every run (demand 3) holds of them. A call whose list for the values is too
 -- short is refused before Step is called, and leaves everything. Assumes nothing.
+use Rattle.std.specs.Prelude.{Ok}
 use mathlib.Core.Path.{◌≡◌, refl, sym, ◌∙◌, ap, subst}
 use mathlib.Core.Logic.{⊎_elim}
 use mathlib.Core.Bool.{Bool, true, false, cond}
@@ -9,15 +10,12 @@ use native.Mathlib.Omega.{arith}
 use lib.Dec.{leb}
 use lib.ListN.{length}
 use borrow.Author.Tests.{leb-true, leb-false}
-use Rattle.numbers.specs.Checks.{accepted}
 use Rattle.book_spec.specs.Book.{book}
 use Rattle.kept_spec.specs.declared.Balance.{Balance}
-use Rattle.kept_spec.specs.Open.{open_tells, open_answer}
 use Rattle.kept_spec.specs.Run.{Run, collect}
 use Rattle.kept_spec.specs.Account.{Standing, told, balance_after, Promised, Moves, Account, Accepts}
 use Rattle.kept_spec.specs.BookRun.{StartEvent, Act, Ledger, ledger, standing_of, Lent, length_after, LedgerMoves, BookAccount, book_after, steps_in}
 use Rattle.kept_spec.proofs.RunLaws.{run-collect}
-use Rattle.kept_spec.proofs.StepLaws.{answer-tells}
 use Rattle.kept_spec.proofs.Demand3.{demand3}
 use Rattle.kept_spec.proofs.BookLaws.{book-demand3, lent_same}
 use Rattle.call_values.specs.Values.{told_by, open_values, step_values, balance_in, result_in}
@@ -39,14 +37,14 @@ module _ (e : CallEvent) (short : length e.answer < step_values) (p : CallPromis
       (step-short-returns e.call e.answer e.returned e.kept e.scratch e.book e.answer' short p)
 
   balance-stays : (b : Balance) → balance_after (told (event_of e)) b ≡ b
-  balance-stays b = ap (λ a. balance_after a b) (answer-tells (told_by e.returned (result_in e.call e.answer'))) ∙ by-return e.returned small.0
+  balance-stays b = by-return e.returned small.0
     where
       by-return : (r : ℕ) → 0 < r → balance_after (told_by r (result_in e.call e.answer')) b ≡ b
       by-return zero h = absurd (omega arith)
       by-return (suc r) h = refl
 
   length-stays : (l : ℕ) → length_after (told (event_of e)) l ≡ l
-  length-stays l = ap (λ a. length_after a l) (answer-tells (told_by e.returned (result_in e.call e.answer'))) ∙ by-return e.returned small.0
+  length-stays l = by-return e.returned small.0
     where
       by-return : (r : ℕ) → 0 < r → length_after (told_by r (result_in e.call e.answer')) l ≡ l
       by-return zero h = absurd (omega arith)
@@ -82,9 +80,8 @@ pub call-account :
     (kept : List ℕ) (k : ℕ) (answer answer' : List ℕ) (opening : Balance) → open_values ≤ length answer → OpenReturns kept k answer 0 answer' → opening ≡ balance_in answer'
     → (es : List CallEvent) (end : Standing) → Run CallMoves (record { kept = kept; balance = opening }) es end
     → Account opening (collect steps_of es) end
-unfolding open_tells
 call-account kept k answer answer' opening h q o es end r =
-    demand3 kept k (open_answer (told_by 0 (balance_in answer'))) opening (open_own kept k answer 0 answer' h q) (ap accepted (sym o)) (collect steps_of es) end (call-run _ end es r)
+    demand3 kept k (told_by 0 (balance_in answer')) opening (open_own kept k answer 0 answer' h q) (ap Ok (sym o)) (collect steps_of es) end (call-run _ end es r)
 
 -- ---- with a book
 
@@ -132,7 +129,6 @@ pub call-book-account :
     → (buffer : List ℕ) (l : ℕ) (acts : List CallAct) (end : Ledger) → Run LedgerCallMoves (ledger (record { kept = kept; balance = opening }) buffer l) acts end
     → Account opening (steps_in (collect acts_of acts)) (standing_of end)
     × ((before rest : List Act) (e : StartEvent) → collect acts_of acts ≡ before ++ (Act.starts e ∷ rest) → BookAccount (book_after rest (book e.total [])) end)
-unfolding open_tells
 call-book-account kept k answer answer' opening h q o buffer l acts end r =
-    book-demand3 kept k (open_answer (told_by 0 (balance_in answer'))) opening (open_own kept k answer 0 answer' h q) (ap accepted (sym o)) buffer l (collect acts_of acts) end
+    book-demand3 kept k (told_by 0 (balance_in answer')) opening (open_own kept k answer 0 answer' h q) (ap Ok (sym o)) buffer l (collect acts_of acts) end
     (ledger-call-run _ end acts r)

@@ -1,8 +1,6 @@
 -- Runs of the calls from C for a kept field, as runs of Step. Assumes nothing.
-use Rattle.std.specs.Prelude.{◌≡◌, cond, List, [], ◌∷◌, ◌++◌, ℕ, leb, ℤ, length}
-use Rattle.numbers.specs.Checks.{accepted}
-use Rattle.book_spec.specs.StartBook.{book_start_tells}
-use Rattle.kept_spec.specs.Step.{StepCall, step_answer}
+use Rattle.std.specs.Prelude.{Ok, ◌≡◌, cond, List, [], ◌∷◌, ◌++◌, ℕ, leb, ℤ, length}
+use Rattle.kept_spec.specs.Step.{StepCall}
 use Rattle.kept_spec.specs.Account.{Event, Standing, told, Accepts, balance_after}
 use Rattle.kept_spec.specs.BookRun.{StartEvent, StartPromised, Act, Ledger, ledger, standing_of, Lent, length_after}
 use Rattle.call_values.specs.Values.{told_by, step_values, result_in}
@@ -23,7 +21,7 @@ abbrev pub event_of : CallEvent → Event
 event_of e =
     record {
       call = e.call;
-      answer = step_answer (told_by e.returned (result_in e.call e.answer'));
+      answer = (told_by e.returned (result_in e.call e.answer'));
       kept = e.kept;
       scratch = e.scratch;
       book = e.book;
@@ -63,5 +61,5 @@ pub data LedgerCallMoves : Ledger → CallAct → Ledger → Type 0 where
       → (Accepts (told (event_of e)) → e.call.length ≡ s.length)
       → LedgerCallMoves s (CallAct.steps e) (ledger t book (length_after (told (event_of e)) s.length))
   starts : {s : Ledger} {e : StartEvent} {l : ℕ}
-      → StartPromised e → book_start_tells e.answer ≡ accepted l → e.total ≡ s.balance.total
+      → StartPromised e → e.answer ≡ Ok l → e.total ≡ s.balance.total
       → LedgerCallMoves s (CallAct.starts e) (ledger (standing_of s) e.left l)

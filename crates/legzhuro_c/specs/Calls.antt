@@ -1,11 +1,9 @@
 -- The calls from C: what each returns and leaves in the lists lent to it. Assumes nothing.
-use Rattle.std.specs.Prelude.{◌≡◌, List, [], ◌∷◌, ◌++◌, ℕ, ◌*◌, ◌≤◌, ℤ, pos, length, get_or, Float}
+use Rattle.std.specs.Prelude.{Ok, Err, ◌≡◌, List, [], ◌∷◌, ◌++◌, ℕ, ◌*◌, ◌≤◌, ℤ, pos, length, get_or, Float}
 use Rattle.std.specs.Float.{nan}
-use Rattle.numbers.specs.declared.Checked.{Checked}
-use Rattle.numbers.specs.declared.Checked.TheVariants.{Pass, Fail}
 use Rattle.numbers.specs.Lists.{at_ℤ, written}
 use Rattle.numbers.specs.Signed.{over}
-use Rattle.numbers.specs.Checks.{after, first, check_count, check_long, Rule, rule}
+use Rattle.numbers.specs.Checks.{Checked, after, first, check_count, check_long, Rule, rule}
 use Rattle.caas_spec.specs.Operation.{SplitCall, items, split_verdict, split_masses, split_deficit}
 use Rattle.qlt_spec.specs.Field.{cells, nodes}
 use Rattle.qlt_spec.specs.Checks.{check_nodes}
@@ -19,8 +17,6 @@ use Rattle.doubles_spec.specs.declared.CellUnits.{CellUnits}
 use Rattle.doubles_spec.specs.Import.{import_verdict, import_units}
 use Rattle.doubles_spec.specs.Export.{export_verdict, export_double}
 use Rattle.doubles_spec.specs.ExportSingle.{export_single}
-use Rattle.files_spec.specs.declared.AnswerWritten.{AnswerWritten}
-use Rattle.files_spec.specs.declared.AnswerWritten.TheVariants as answers
 use Rattle.files_spec.specs.ReadField.{file_cells}
 use Rattle.files_spec.specs.AnswerFile.{answer_blocks, answer_bytes}
 use Rattle.files_spec.specs.WriteAnswer.{write_call, write_verdict}
@@ -45,12 +41,8 @@ pub record CallFits (file answer : List ℕ) : Type 0 where
 
 -- 0, or the refusal's number
 abbrev pub number_of : Checked → ℕ
-number_of Pass = 0
-number_of (Fail number place) = number
-
-abbrev pub written_number : AnswerWritten → ℕ
-written_number (answers.Bytes l) = 0
-written_number (answers.Refused number place) = number
+number_of (Ok tt) = 0
+number_of (Err r) = r.number
 
 pub record ReconstructReturns (file answer : List ℕ) (r : ℕ) (answer' : List ℕ) : Type 0 where
   pub returns : r ≡ number_of (call_verdict file answer)

@@ -1,20 +1,18 @@
 -- The calls from C that write a field file and read an answer file: what each returns and leaves in the lists lent to it. Assumes nothing.
-use Rattle.std.specs.Prelude.{◌≡◌, cond, List, [], ◌∷◌, ℕ, ◌≤◌, leb, length}
-use Rattle.numbers.specs.declared.Checked.{Checked}
-use Rattle.numbers.specs.declared.Checked.TheVariants.{Pass}
+use Rattle.std.specs.Prelude.{Ok, ◌≡◌, cond, List, [], ◌∷◌, ℕ, ◌≤◌, leb, length}
+use Rattle.files_spec.specs.declared.Repaired.{Repaired}
 use Rattle.numbers.specs.Lists.{at, written}
-use Rattle.numbers.specs.Checks.{after}
+use Rattle.numbers.specs.Checks.{Checked, after}
 use Rattle.blocks.specs.Words.{Bytes}
 use Rattle.files_spec.specs.FieldFile.{field_bytes, FieldTyped}
 use Rattle.files_spec.specs.WriteField.{FieldWriteCall, field_write_verdict, field_of}
-use Rattle.files_spec.specs.AnswerFile.{Repaired}
 use Rattle.files_spec.specs.ReadAnswer.{answer_masses, answer_read_verdict, AnswerReadFits, answer_of}
 use Rattle.call_values.specs.Values.{returned}
 
 -- ---- Write a field file: the length is not told, it is that of the cells and nodes
 
 pub record WriteFieldReturns (c : FieldWriteCall) (r : ℕ) (buffer : List ℕ) : Type 0 where
-  pub typed : field_write_verdict c ≡ Pass → FieldTyped (field_of c) c.total
+  pub typed : field_write_verdict c ≡ Ok tt → FieldTyped (field_of c) c.total
   pub returns : r ≡ returned (field_write_verdict c)
   pub writes : buffer ≡ after (field_write_verdict c) (written c.buffer 0 (field_bytes (field_of c) c.total)) c.buffer
 

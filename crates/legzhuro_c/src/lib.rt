@@ -1,6 +1,7 @@
-// The calls from C, a static library. `include/legzhuro.h` documents them. Public: the nineteen functions here; what they share is in `returns`
-// and in `call_values`, the work of the file call in `whole`, that of the calls on a family in `family_calls` and `turn_calls`, that of the calls on
-// a book in `book_calls`. Relies on every operation and on `repair_file` and `numbers`.
+// The calls from C, a static library. `include/legzhuro.h` documents them. Public: the nineteen functions here. Each lends its lists to a function
+// that answers a Result, and returns that as one number; these functions are in `calls` and `whole`, and in `family_calls`, `turn_calls`
+// and `book_calls`. What they put into the lent lists is in `returns` and in `call_values`. The lists of a field come one by one, as C lends them.
+// Relies on every operation and on `repair_file` and `numbers`.
 #![tactic(auto)]
 
 ghost use Rattle.caas_spec.specs.Operation.{split_call};
@@ -15,15 +16,12 @@ ghost use Rattle.turn_calls.specs.TurnCalls.{FamilyRegisterReturns, FamilyNextRe
 ghost use Rattle.legzhuro_c.specs.Calls.{ReconstructReturns, SplitReturns, OpenReturns, StepReturns, BoundsReturns, ImportReturns, ExportReturns, SingleReturns};
 ghost use Rattle.legzhuro_c.specs.FileCalls.{WriteFieldReturns, ReadAnswerReturns};
 
-use bounds_spec::Bounded;
-use caas_spec::SplitAnswer;
-use call_values::values::{put_balance, put_result, refusal, step_shape};
-use doubles_spec::{CellDoubles, Exported, Imported, SingleExported};
-use files_spec::{AnswerRead, FieldWritten};
-use kept_spec::{Balance, Opened, Stepped};
-use numbers::Checked;
-use qlt_spec::MAX_SCRATCH;
+use call_values::values::returned;
+use doubles_spec::CellDoubles;
+use kept_spec::Balance;
+use qlt_spec::{FieldLists, MAX_SCRATCH};
 
+mod calls;
 mod returns;
 mod whole;
 
@@ -41,7 +39,7 @@ pub extern "C" fn legzhuro_reconstruct(file: &[u8], answer: &mut [u8]) -> u32
     let mut parents = [0u32; 1024];
     let mut masses = [0u32; 512];
     let mut scratch = [0i64; MAX_SCRATCH];
-    whole::answer_file(
+    let written = whole::answer_file(
         file,
         answer,
         &mut targets,
@@ -53,7 +51,8 @@ pub extern "C" fn legzhuro_reconstruct(file: &[u8], answer: &mut [u8]) -> u32
         &mut parents,
         &mut masses,
         &mut scratch,
-    )
+    );
+    returns::number_of(written)
 }
 
 // Split: deficit[0] is 01's d.
@@ -71,14 +70,7 @@ pub extern "C" fn legzhuro_split(
         (split_call targets.now lows.now highs.now weights.now total masses.old)
         deficit.old result masses.new deficit.new }
 {
-    let shape = returns::split_shape(targets.len(), deficit.len());
-    if let Checked::Fail { number, place } = shape {
-        return refusal(number, place);
-    }
-    match split::split(targets, lows, highs, weights, total, masses) {
-        SplitAnswer::Done { deficit: d } => returns::put_deficit(d, deficit),
-        SplitAnswer::Refused { number, place } => refusal(number, place),
-    }
+    returned(calls::split(targets, lows, highs, weights, total, masses, deficit))
 }
 
 // Open: answer[0] is the total, answer[1] the scale.
@@ -86,13 +78,7 @@ pub extern "C" fn legzhuro_split(
 pub extern "C" fn legzhuro_open(kept: &[u32], scale: u32, answer: &mut [u64]) -> u64
     ensures { OpenReturns kept.now scale answer.old result answer.new }
 {
-    if answer.len() < 2 {
-        return 3;
-    }
-    match kept::open(kept, scale) {
-        Opened::Accepted(balance) => put_balance(balance, answer),
-        Opened::Refused { number, place } => refusal(number, place),
-    }
+    returned(calls::open(kept, scale, answer))
 }
 
 // Step, with the balance in two numbers: answer[0] is the outcome, answer[1] the new total, answer[2] the change, answer[3] what was shared
@@ -123,18 +109,7 @@ pub extern "C" fn legzhuro_step(
         scratch.old book.old book_length)
         answer.old result kept.new scratch.new book.new answer.new }
 {
-    let shape = step_shape(targets.len(), parents.len(), answer.len());
-    if let Checked::Fail { number, place } = shape {
-        return refusal(number, place);
-    }
-    let stepped = kept::step(
-        Balance {
-            total,
-            scale: total_scale,
-        },
-        kept,
-        source,
-        scale,
+    let field = FieldLists {
         targets,
         lows,
         highs,
@@ -142,18 +117,21 @@ pub extern "C" fn legzhuro_step(
         safe_highs,
         weights,
         parents,
+    };
+    returned(calls::step(
+        Balance {
+            total,
+            scale: total_scale,
+        },
+        kept,
+        source,
+        scale,
+        &field,
         scratch,
         book,
         book_length,
-    );
-    match stepped {
-        Stepped::Accepted {
-            repair,
-            balance: _,
-            length,
-        } => put_result(repair, length, answer),
-        Stepped::Refused { number, place } => refusal(number, place),
-    }
+        answer,
+    ))
 }
 
 // Bounds.
@@ -172,7 +150,7 @@ pub extern "C" fn legzhuro_bounds(
         (bounds lows.old highs.old safe_lows.old safe_highs.old)) result
         (bounds lows.new highs.new safe_lows.new safe_highs.new) }
 {
-    let bounded = bounds::bounds(
+    returned(bounds::bounds(
         air,
         low_ratios,
         high_ratios,
@@ -180,11 +158,7 @@ pub extern "C" fn legzhuro_bounds(
         highs,
         safe_lows,
         safe_highs,
-    );
-    match bounded {
-        Bounded::Done => 0,
-        Bounded::Refused { number, place } => refusal(number, place),
-    }
+    ))
 }
 
 // Import: units[0] to units[4] are the target, low, high, safe low and safe high.
@@ -201,9 +175,6 @@ pub extern "C" fn legzhuro_import(
     ensures { ImportReturns (record { target = target; low = low; high = high; safe_low = safe_low; safe_high = safe_high }) scale
         units.old result units.new }
 {
-    if units.len() < 5 {
-        return 3;
-    }
     let cell = CellDoubles {
         target,
         low,
@@ -211,15 +182,7 @@ pub extern "C" fn legzhuro_import(
         safe_low,
         safe_high,
     };
-    match doubles::import(cell, scale) {
-        Imported::Units(cell_units) => returns::put_units(cell_units, units),
-        Imported::BadScale => 9,
-        Imported::Refused {
-            number,
-            field,
-            double: _,
-        } => refusal(number, field),
-    }
+    returned(calls::import(cell, scale, units))
 }
 
 // Export: value[0] is the double.
@@ -227,13 +190,7 @@ pub extern "C" fn legzhuro_import(
 pub extern "C" fn legzhuro_export(mass: u32, scale: u32, value: &mut [f64]) -> u64
     ensures { ExportReturns mass scale value.old result value.new }
 {
-    if value.len() < 1 {
-        return 3;
-    }
-    match doubles::export(mass, scale) {
-        Exported::Double(x) => returns::put_double(x, value),
-        Exported::Refused { number, place } => refusal(number, place),
-    }
+    returned(calls::export(mass, scale, value))
 }
 
 // Export in binary32: value[0] is the binary32.
@@ -241,13 +198,7 @@ pub extern "C" fn legzhuro_export(mass: u32, scale: u32, value: &mut [f64]) -> u
 pub extern "C" fn legzhuro_export_single(mass: u32, scale: u32, value: &mut [f32]) -> u64
     ensures { SingleReturns mass scale value.old result value.new }
 {
-    if value.len() < 1 {
-        return 3;
-    }
-    match doubles::export_single(mass, scale) {
-        SingleExported::Single(x) => returns::put_single(x, value),
-        SingleExported::Refused { number, place } => refusal(number, place),
-    }
+    returned(calls::export_single(mass, scale, value))
 }
 
 // Write a field file.
@@ -271,13 +222,16 @@ pub extern "C" fn legzhuro_write_field(
         weights.now parents.now)
         buffer.old) result buffer.new }
 {
-    let written = field_file::write_field(
-        cells, nodes, total, targets, lows, highs, safe_lows, safe_highs, weights, parents, buffer,
-    );
-    match written {
-        FieldWritten::Bytes(_) => 0,
-        FieldWritten::Refused { number, place } => refusal(number, place),
-    }
+    let field = FieldLists {
+        targets,
+        lows,
+        highs,
+        safe_lows,
+        safe_highs,
+        weights,
+        parents,
+    };
+    returned(calls::write_field(cells, nodes, total, &field, buffer))
 }
 
 // Read an answer: answer[0] is the number of cells, answer[1] the outcome, answer[2] the total, answer[3] the change, answer[4] what was
@@ -286,11 +240,7 @@ pub extern "C" fn legzhuro_write_field(
 pub extern "C" fn legzhuro_read_answer(file: &[u8], masses: &mut [u32], answer: &mut [u64]) -> u64
     ensures { ReadAnswerReturns file.now masses.old answer.old result masses.new answer.new }
 {
-    let room = returns::answer_room(masses.len(), answer.len());
-    match answer_file::read_answer(file, &mut masses[0..room]) {
-        AnswerRead::Read { cells, repair } => returns::put_answer(cells, repair, answer),
-        AnswerRead::Refused { number, place } => refusal(number, place),
-    }
+    returned(calls::read_answer(file, masses, answer))
 }
 
 // Start a family, which stands in a lent list.
@@ -298,7 +248,7 @@ pub extern "C" fn legzhuro_read_answer(file: &[u8], masses: &mut [u32], answer: 
 pub extern "C" fn legzhuro_family_start(cap: u64, scale: u32, cells: u32, family: &mut [u64]) -> u64
     ensures { FamilyStartReturns cap scale cells family.old result family.new }
 {
-    family_calls::start(cap, scale, cells, family)
+    returned(family_calls::start(cap, scale, cells, family))
 }
 
 // Open a member of a family: answer[0] is the total, answer[1] the scale.
@@ -313,7 +263,7 @@ pub extern "C" fn legzhuro_family_open(
     ensures { FamilyOpenReturns family.old member kept.now scale answer.old result family.new
         answer.new }
 {
-    family_calls::open(family, member, kept, scale, answer)
+    returned(family_calls::open(family, member, kept, scale, answer))
 }
 
 // Step a member of a family: answer[0] is the outcome, answer[1] the new total, answer[2] the change, answer[3] what was shared out,
@@ -344,12 +294,7 @@ pub extern "C" fn legzhuro_family_step(
         scratch.old book.old book_length)
         answer.old result family.new kept.new scratch.new book.new answer.new }
 {
-    family_calls::step(
-        family,
-        member,
-        kept,
-        source,
-        scale,
+    let field = FieldLists {
         targets,
         lows,
         highs,
@@ -357,11 +302,19 @@ pub extern "C" fn legzhuro_family_step(
         safe_highs,
         weights,
         parents,
+    };
+    returned(family_calls::step(
+        family,
+        member,
+        kept,
+        source,
+        scale,
+        &field,
         scratch,
         book,
         book_length,
         answer,
-    )
+    ))
 }
 
 // Register a member of a family as waiting.
@@ -369,7 +322,7 @@ pub extern "C" fn legzhuro_family_step(
 pub extern "C" fn legzhuro_family_register(family: &mut [u64], member: u32) -> u64
     ensures { FamilyRegisterReturns family.old member result family.new }
 {
-    turn_calls::register(family, member)
+    returned(turn_calls::register(family, member))
 }
 
 // Read the next in turn: answer[0] is the member, or 8 for nobody.
@@ -377,7 +330,7 @@ pub extern "C" fn legzhuro_family_register(family: &mut [u64], member: u32) -> u
 pub extern "C" fn legzhuro_family_next(family: &[u64], answer: &mut [u64]) -> u64
     ensures { FamilyNextReturns family.now answer.old result answer.new }
 {
-    turn_calls::next(family, answer)
+    returned(turn_calls::next(family, answer))
 }
 
 // Read how many members wait: answer[0] is their number.
@@ -385,7 +338,7 @@ pub extern "C" fn legzhuro_family_next(family: &[u64], answer: &mut [u64]) -> u6
 pub extern "C" fn legzhuro_family_waiting(family: &[u64], answer: &mut [u64]) -> u64
     ensures { FamilyWaitingReturns family.now answer.old result answer.new }
 {
-    turn_calls::waiting(family, answer)
+    returned(turn_calls::waiting(family, answer))
 }
 
 // Serve the next in turn: answer[0] is the member, or 8 for idle, answer[1] what its step returned, answer[2] the outcome, answer[3] the new
@@ -415,11 +368,7 @@ pub extern "C" fn legzhuro_family_turn(
         scratch.old book.old book_length)
         answer.old result family.new kept.new scratch.new book.new answer.new }
 {
-    turn_calls::turn(
-        family,
-        kept,
-        source,
-        scale,
+    let field = FieldLists {
         targets,
         lows,
         highs,
@@ -427,11 +376,18 @@ pub extern "C" fn legzhuro_family_turn(
         safe_highs,
         weights,
         parents,
+    };
+    returned(turn_calls::turn(
+        family,
+        kept,
+        source,
+        scale,
+        &field,
         scratch,
         book,
         book_length,
         answer,
-    )
+    ))
 }
 
 // Start a book at the front of a buffer: answer[0] is its length in bytes.
@@ -439,7 +395,7 @@ pub extern "C" fn legzhuro_family_turn(
 pub extern "C" fn legzhuro_book_start(total: u32, buffer: &mut [u8], answer: &mut [u64]) -> u64
     ensures { BookStartReturns total buffer.old answer.old result buffer.new answer.new }
 {
-    book_calls::start(total, buffer, answer)
+    returned(book_calls::start(total, buffer, answer))
 }
 
 // Read a book: answer[0] is the opening total, answer[1] what came in, answer[2] what went out, answer[3] the closing total.
@@ -447,5 +403,5 @@ pub extern "C" fn legzhuro_book_start(total: u32, buffer: &mut [u8], answer: &mu
 pub extern "C" fn legzhuro_book_report(file: &[u8], answer: &mut [u64]) -> u64
     ensures { BookReportReturns file.now answer.old result answer.new }
 {
-    book_calls::report(file, answer)
+    returned(book_calls::report(file, answer))
 }

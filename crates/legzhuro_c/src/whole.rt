@@ -1,22 +1,11 @@
 // The file call over lent lists that have room for every field.
 ghost use Rattle.std.specs.Prelude.{◌≡◌, length};
 ghost use Rattle.qlt_spec.specs.Field.{max_scratch};
-ghost use Rattle.legzhuro_c.specs.Calls.{written_number, ReconstructReturns};
+ghost use Rattle.legzhuro_c.specs.Calls.{number_of, ReconstructReturns};
 
 use answer_file::write_answer;
-use files_spec::AnswerWritten;
-use repair_file::FileRepaired;
+use numbers::Refusal;
 use repair_file::repair::repair_file;
-
-// 0, or the refusal's number.
-fn number_of(written: AnswerWritten) -> u32
-    ensures { result ≡ written_number written }
-{
-    match written {
-        AnswerWritten::Bytes(_) => 0,
-        AnswerWritten::Refused { number, place: _ } => number,
-    }
-}
 
 pub fn answer_file(
     file: &[u8],
@@ -30,20 +19,20 @@ pub fn answer_file(
     parents: &mut [u32],
     masses: &mut [u32],
     scratch: &mut [i64],
-) -> u32
+) -> Result<(), Refusal>
     requires targets_len { (length targets.old ≡ 512) × (length lows.old ≡ 512) × (length highs.old ≡ 512) × (length safe_lows.old ≡ 512) }
     requires safe_highs_len { (length safe_highs.old ≡ 512) × (length weights.old ≡ 512) × (length parents.old ≡ 1024) × (length masses.old ≡ 512) ×
         (length scratch.old ≡ max_scratch) }
-    ensures { ReconstructReturns file.now answer.old result answer.new }
+    ensures { ReconstructReturns file.now answer.old (number_of result) answer.new }
 {
     let repaired = repair_file(
         file, targets, lows, highs, safe_lows, safe_highs, weights, parents, masses, scratch,
-    );
-    match repaired {
-        FileRepaired::Refused { number, place: _ } => number,
-        FileRepaired::Done { cells, repair } => {
-            let written = write_answer(cells, repair, &masses[0..cells], answer);
-            number_of(written)
-        }
-    }
+    )?;
+    write_answer(
+        repaired.cells,
+        repaired.repair,
+        &masses[0..repaired.cells],
+        answer,
+    )?;
+    Ok(())
 }

@@ -5,7 +5,6 @@
 #![tactic(auto)]
 
 use std::rt::Env;
-use text::Reported;
 
 // The descriptors of standard input and output.
 const STANDARD_INPUT: i32 = 0;
@@ -19,7 +18,7 @@ fn main(rt: HostRuntime) {
     let k = rt.arg(1, &mut argument).unwrap_or(0);
     let cell = arguments::number_of(&argument[..k]) as usize;
     let n = io::read_full(STANDARD_INPUT, &mut file);
-    if let Reported::Text(k) = query::query(&file[..n], cell, &mut out) {
+    if let Ok(k) = query::query(&file[..n], cell, &mut out) {
         io::write_all(STANDARD_OUTPUT, &out[..k]);
     }
 }

@@ -12,9 +12,9 @@ fn put_head(out: &mut [u8], cells: usize, repair: Repair) -> usize
     requires { 128 ≤ length out.old }
     ensures { Put out.old out.new 0 result (head_line cells repair) × (result ≤ 128) }
 {
-    let a = put_named(out, 0, b"outcome ", repair.outcome as u64, b' ');
+    let a = put_named(out, 0, b"outcome ", u64::from(repair.outcome), b' ');
     let b = put_named(out, a, b"cells ", cells as u64, b' ');
-    let c = put_named(out, b, b"total ", repair.total as u64, b' ');
+    let c = put_named(out, b, b"total ", u64::from(repair.total), b' ');
     put_named(out, c, b"change ", repair.change, b'\n')
 }
 
@@ -25,7 +25,7 @@ fn put_cell(out: &mut [u8], at: usize, i: usize, mass: u32, target: i32) -> usiz
 {
     let correction = minus(mass, target);
     let a = put_number(out, at, i as u64, b' ');
-    let b = put_number(out, a, mass as u64, b' ');
+    let b = put_number(out, a, u64::from(mass), b' ');
     put_signed(out, b, correction, b'\n')
 }
 
@@ -38,10 +38,8 @@ fn put_cells(out: &mut [u8], at: usize, masses: &[u32], targets: &[i32]) -> usiz
         (result ≤ at + 27 * length masses.now) }
 {
     let mut end = at;
-    let mut i: usize = 0;
-    while i < masses.len() {
-        end = put_cell(out, end, i, masses[i], targets[i]);
-        i += 1;
+    for (i, mass) in masses.iter().enumerate() {
+        end = put_cell(out, end, i, *mass, targets[i]);
     }
     end
 }

@@ -1,5 +1,6 @@
 -- Chains of checks and their rules as a whole: a chain by its checks, a chain that is another with checks of its own put in, and the numbers
 -- that rules refuse with, which are computed. Assumes nothing.
+use Rattle.std.specs.Prelude.{Ok, Err}
 use mathlib.Core.Path.{◌≡◌, refl, sym, ◌∙◌, ap, subst}
 use mathlib.Core.Logic.{◌⊎◌, inl, inr, ⊎_elim, ◌↔◌}
 use mathlib.Core.Bool.{Bool, true, false, ◌&&◌, ◌||◌, or-true}
@@ -7,10 +8,8 @@ use mathlib.Core.List.{List, [], ◌∷◌, ◌++◌}
 use Prim.Native.Nat.{ℕ, zero, suc}
 use lib.Dec.{eqb}
 use borrow.Author.Tests.{eqb-true, eq-eqb}
-use Rattle.numbers.specs.declared.Checked.{Checked}
-use Rattle.numbers.specs.declared.Checked.TheVariants.{Pass, Fail}
 use Rattle.numbers.specs.Lists.{All}
-use Rattle.numbers.specs.Checks.{both, first, Rule, Holds, Broken, DecidesAll, rules_from, numbers_of, OneOf, RefuseWith, Extends}
+use Rattle.numbers.specs.Checks.{Checked, refused, both, first, Rule, Holds, Broken, DecidesAll, rules_from, numbers_of, OneOf, RefuseWith, Extends}
 use Rattle.numbers.proofs.TestLaws.{clash, and_first, and_second}
 use Rattle.numbers.proofs.CheckLaws.{on, both_first, both-second, no-pass, broken-append}
 
@@ -18,51 +17,51 @@ use Rattle.numbers.proofs.CheckLaws.{on, both_first, both-second, no-pass, broke
 
 -- cases on a verdict
 pub data Verdict (v : Checked) : Type 0 where
-  passed : v ≡ Pass → Verdict v
-  failed : (number place : ℕ) → v ≡ Fail number place → Verdict v
+  passed : v ≡ Ok tt → Verdict v
+  failed : (number place : ℕ) → v ≡ refused number place → Verdict v
 
 pub verdict : (v : Checked) → Verdict v
-verdict Pass = passed refl
-verdict (Fail number place) = failed number place refl
+verdict (Ok tt) = passed refl
+verdict (Err r) = failed r.number r.place refl
 
 -- a chain passes exactly if each of its checks does
 abbrev pub Passes : Checked → Type 0
-Passes v = v ≡ Pass
+Passes v = v ≡ Ok tt
 
-pub pass_all : (vs : List Checked) → first vs ≡ Pass → All Passes vs
+pub pass_all : (vs : List Checked) → first vs ≡ Ok tt → All Passes vs
 pass_all [] e = All.none
 pass_all (v ∷ vs) e = All.more (both_first v (first vs) e) (pass_all vs (both-second v (first vs) e))
 
-pub all_pass : (vs : List Checked) → All Passes vs → first vs ≡ Pass
+pub all_pass : (vs : List Checked) → All Passes vs → first vs ≡ Ok tt
 all_pass [] All.none = refl
 all_pass (v ∷ vs) (All.more h hs) = sym (on h (sym (all_pass vs hs)))
 
 -- ---- a chain that is another with checks of its own put in
 
 -- several of its own one after another
-pub extends-own : {Own : ℕ → Type 0} {vs ws : List Checked} (own : List Checked) → All (λ v. (number place : ℕ) → v ≡ Fail number place → Own number) own → Extends Own vs ws → Extends Own (own ++ vs) ws
+pub extends-own : {Own : ℕ → Type 0} {vs ws : List Checked} (own : List Checked) → All (λ v. (number place : ℕ) → v ≡ refused number place → Own number) own → Extends Own vs ws → Extends Own (own ++ vs) ws
 extends-own [] All.none z = z
 extends-own (v ∷ own) (All.more h hs) z = Extends.extra h (extends-own own hs z)
 
 -- where it passes, the other passes
-pub extends-pass : {Own : ℕ → Type 0} {vs ws : List Checked} → Extends Own vs ws → first vs ≡ Pass → first ws ≡ Pass
+pub extends-pass : {Own : ℕ → Type 0} {vs ws : List Checked} → Extends Own vs ws → first vs ≡ Ok tt → first ws ≡ Ok tt
 extends-pass Extends.end e = e
 extends-pass (Extends.shared {v} {vs} {ws} z) e = sym (on (both_first v (first vs) e) (sym (extends-pass z (both-second v (first vs) e))))
 extends-pass (Extends.extra {v} {vs} {ws} o z) e = extends-pass z (both-second v (first vs) e)
 
 -- where it fails, it is with a number of its own, or the other fails the same
-pub extends-fail : {Own : ℕ → Type 0} {vs ws : List Checked} {number place : ℕ} → Extends Own vs ws → first vs ≡ Fail number place → Own number ⊎ (first ws ≡ Fail number place)
+pub extends-fail : {Own : ℕ → Type 0} {vs ws : List Checked} {number place : ℕ} → Extends Own vs ws → first vs ≡ refused number place → Own number ⊎ (first ws ≡ refused number place)
 extends-fail Extends.end e = absurd (no-pass refl e)
 extends-fail {Own = Own} {number = number} {place} (Extends.shared {v} {vs} {ws} z) e = by_first v e (λ x. extends-fail z x)
   where
-    by_first : (u : Checked) → both u (first vs) ≡ Fail number place → (first vs ≡ Fail number place → Own number ⊎ (first ws ≡ Fail number place)) → Own number ⊎ (both u (first ws) ≡ Fail number place)
-    by_first Pass x ih = ih x
-    by_first (Fail n p) x ih = inr x
+    by_first : (u : Checked) → both u (first vs) ≡ refused number place → (first vs ≡ refused number place → Own number ⊎ (first ws ≡ refused number place)) → Own number ⊎ (both u (first ws) ≡ refused number place)
+    by_first (Ok tt) x ih = ih x
+    by_first (Err r) x ih = inr x
 extends-fail {Own = Own} {number = number} {place} (Extends.extra {v} {vs} {ws} o z) e = by_first v o e (λ x. extends-fail z x)
   where
-    by_first : (u : Checked) → ((n p : ℕ) → u ≡ Fail n p → Own n) → both u (first vs) ≡ Fail number place → (first vs ≡ Fail number place → Own number ⊎ (first ws ≡ Fail number place)) → Own number ⊎ (first ws ≡ Fail number place)
-    by_first Pass q x ih = ih x
-    by_first (Fail n p) q x ih = inl (q number place x)
+    by_first : (u : Checked) → ((n p : ℕ) → u ≡ refused n p → Own n) → both u (first vs) ≡ refused number place → (first vs ≡ refused number place → Own number ⊎ (first ws ≡ refused number place)) → Own number ⊎ (first ws ≡ refused number place)
+    by_first (Ok tt) q x ih = ih x
+    by_first (Err r) q x ih = inl (q number place x)
 
 -- ---- the numbers that rules refuse with
 
@@ -72,7 +71,7 @@ broken-number [] n p h = h
 broken-number (r ∷ rs) n p h = ⊎_elim (λ f. inl f.0) (λ g. inr (broken-number rs n p g.1)) h
 
 -- a verdict fails with a number of its rules
-pub fails-number : {v : Checked} {rs : List Rule} {n p : ℕ} → DecidesAll v rs → v ≡ Fail n p → OneOf (numbers_of rs) n
+pub fails-number : {v : Checked} {rs : List Rule} {n p : ℕ} → DecidesAll v rs → v ≡ refused n p → OneOf (numbers_of rs) n
 fails-number {rs = rs} {n} {p} d e = broken-number rs n p ((d.fails n p).0 e)
 
 pub one-append : (ms ns : List ℕ) (n : ℕ) → OneOf (ms ++ ns) n ↔ (OneOf ms n ⊎ OneOf ns n)

@@ -1,4 +1,5 @@
 -- Laws of checks: how a proof goes along a chain, how a loop looks for the first place that fails, and what each verdict means. Assumes nothing.
+use Rattle.std.specs.Prelude.{Ok, Err}
 use mathlib.Core.Path.{◌≡◌, refl, sym, ◌∙◌, ap, ap₂, subst}
 use mathlib.Core.Logic.{◌⊎◌, inl, inr, ⊎_elim, ◌↔◌}
 use mathlib.Core.Bool.{Bool, true, false, ◌&&◌}
@@ -9,31 +10,46 @@ use native.Mathlib.Numerals.{add-one}
 use native.Mathlib.Decide.{ℕ_discrete}
 use lib.Dec.{eqb}
 use lib.IntN.{ℤ, pos}
-use Rattle.numbers.specs.declared.Checked.{Checked}
-use Rattle.numbers.specs.declared.Checked.TheVariants.{Pass, Fail}
-use Rattle.numbers.specs.Checks.{accepted, refused, answered, after, unless, both, first, each_from, first_from, every_from, Rule, Decides, rule, rule_for, rule_at, Holds, Broken, DecidesAll, rules_from, check_count, check_scale, check_length, check_long, check_total, total_rule, max_total}
+use Rattle.numbers.specs.declared.Refusal.{Refusal}
+use Rattle.numbers.specs.Checks.{Answered, Checked, refused, answered, after, unless, both, first, each_from, first_from, every_from, Rule, Decides, rule, rule_for, rule_at, Holds, Broken, DecidesAll, rules_from, check_count, check_scale, check_length, check_long, check_total, total_rule, max_total}
 use Rattle.numbers.proofs.SignedLaws.{le_z-means}
 use Rattle.numbers.proofs.TestLaws.{Tested, holds, fails, tested, clash, and-means, lt-means, le-means, and_first, and_second, and_intro}
 
+-- ---- a refusal's number and place
+
+abbrev number_in : {X : Type 0} → Answered X → ℕ
+number_in (Ok x) = 0
+number_in (Err r) = r.number
+
+abbrev place_in : {X : Type 0} → Answered X → ℕ
+place_in (Ok x) = 0
+place_in (Err r) = r.place
+
+pub refused-number : {X : Type 0} {n m p q : ℕ} → ◌≡◌ {A = Answered X} (refused n p) (refused m q) → n ≡ m
+refused-number e = ap number_in e
+
+pub refused-place : {X : Type 0} {n m p q : ℕ} → ◌≡◌ {A = Answered X} (refused n p) (refused m q) → p ≡ q
+refused-place e = ap place_in e
+
 -- ---- along a chain: the first passes and the rest decides; the first fails and that is it; the last decides
 
-pub on : {u v w : Checked} → v ≡ Pass → u ≡ w → u ≡ both v w
+pub on : {u v w : Checked} → v ≡ Ok tt → u ≡ w → u ≡ both v w
 on {w = w} p q = q ∙ ap (λ x. both x w) (sym p)
 
-pub stop : {v : Checked} (w : Checked) {number place : ℕ} → v ≡ Fail number place → Fail number place ≡ both v w
+pub stop : {v : Checked} (w : Checked) {r : Refusal} → v ≡ Err r → Err r ≡ both v w
 stop w p = ap (λ x. both x w) (sym p)
 
-pub last : {u : Checked} (v : Checked) → u ≡ v → u ≡ both v Pass
-last Pass e = e
-last (Fail n p) e = e
+pub last : {u : Checked} (v : Checked) → u ≡ v → u ≡ both v (Ok tt)
+last (Ok tt) e = e
+last (Err r) e = e
 
 pub both-assoc : (u v w : Checked) → both (both u v) w ≡ both u (both v w)
-both-assoc Pass v w = refl
-both-assoc (Fail n p) v w = refl
+both-assoc (Ok tt) v w = refl
+both-assoc (Err r) v w = refl
 
-pub both-pass : (v : Checked) → both v Pass ≡ v
-both-pass Pass = refl
-both-pass (Fail n p) = refl
+pub both-pass : (v : Checked) → both v (Ok tt) ≡ v
+both-pass (Ok tt) = refl
+both-pass (Err r) = refl
 
 -- one chain after another
 pub first-append : (vs ws : List Checked) → both (first vs) (first ws) ≡ first (vs ++ ws)
@@ -51,16 +67,16 @@ unfolding check_length
 then-length k n b v e = ap (both (unless (eqb k n) 3 0)) e ∙ unless-and (eqb k n) b 3 0
 
 -- what a chain that passed says of its parts
-pub both_first : (v w : Checked) → both v w ≡ Pass → v ≡ Pass
-both_first Pass w e = refl
-both_first (Fail n p) w e = e
+pub both_first : (v w : Checked) → both v w ≡ Ok tt → v ≡ Ok tt
+both_first (Ok tt) w e = refl
+both_first (Err r) w e = e
 
-pub both-second : (v w : Checked) → both v w ≡ Pass → w ≡ Pass
-both-second Pass w e = e
-both-second (Fail n p) w e = let z : ◌≡◌ {A = ℕ} 0 1 = cc in absurd (omega arith)
+pub both-second : (v w : Checked) → both v w ≡ Ok tt → w ≡ Ok tt
+both-second (Ok tt) w e = e
+both-second (Err r) w e = let z : ◌≡◌ {A = ℕ} 0 1 = cc in absurd (omega arith)
 
 -- a verdict is one thing
-pub no-pass : {v : Checked} {number place : ℕ} → v ≡ Pass → v ≡ Fail number place → ⊥
+pub no-pass : {v : Checked} {number place : ℕ} → v ≡ Ok tt → v ≡ refused number place → ⊥
 no-pass p f = let z : ◌≡◌ {A = ℕ} 0 1 = cc in omega arith
 
 -- ---- a loop that looks for the first place that fails
@@ -70,15 +86,15 @@ one_less i k h = omega arith
 
 -- a check at each place, in turn
 module _ (check : ℕ → Checked) where
-  pub each_on : (i k : ℕ) → i < k → check i ≡ Pass → each_from check i (k - i) ≡ each_from check (i + 1) (k - (i + 1))
+  pub each_on : (i k : ℕ) → i < k → check i ≡ Ok tt → each_from check i (k - i) ≡ each_from check (i + 1) (k - (i + 1))
   unfolding each_from
   each_on i k h e = rw (one_less i k h, e, add-one) refl
 
-  pub each-here : (i k : ℕ) {number place : ℕ} → i < k → check i ≡ Fail number place → each_from check i (k - i) ≡ Fail number place
+  pub each-here : (i k : ℕ) {number place : ℕ} → i < k → check i ≡ refused number place → each_from check i (k - i) ≡ refused number place
   unfolding each_from
   each-here i k h e = rw (one_less i k h, e) refl
 
-  pub each_none : (i k : ℕ) → k ≤ i → each_from check i (k - i) ≡ Pass
+  pub each_none : (i k : ℕ) → k ≤ i → each_from check i (k - i) ≡ Ok tt
   unfolding each_from
   each_none i k h = let none : k - i ≡ 0 = omega arith in rw none refl
 
@@ -88,11 +104,11 @@ module _ (good : ℕ → Bool) (number : ℕ) where
   unfolding first_from
   first_on i k h e = each_on (λ j. unless (good j) number j) i k h (ap (λ b. unless b number i) e)
 
-  pub first-here : (i k : ℕ) → i < k → good i ≡ false → first_from good number i (k - i) ≡ Fail number i
+  pub first-here : (i k : ℕ) → i < k → good i ≡ false → first_from good number i (k - i) ≡ refused number i
   unfolding first_from
   first-here i k h e = each-here (λ j. unless (good j) number j) i k h (ap (λ b. unless b number i) e)
 
-  pub first-none : (i k : ℕ) → k ≤ i → first_from good number i (k - i) ≡ Pass
+  pub first-none : (i k : ℕ) → k ≤ i → first_from good number i (k - i) ≡ Ok tt
   unfolding first_from
   first-none i k h = each_none (λ j. unless (good j) number j) i k h
 
@@ -110,26 +126,26 @@ every-none good i k h = let none : k - i ≡ 0 = omega arith in rw none refl
 
 -- ---- answers
 
-pub answered-accepted : {X : Type 0} (v : Checked) (x y : X) → accepted x ≡ answered v y → (v ≡ Pass) × (x ≡ y)
-answered-accepted Pass x y e = (refl, cc)
-answered-accepted (Fail n p) x y e = let z : ◌≡◌ {A = ℕ} 0 1 = cc in absurd (omega arith)
+pub answered-accepted : {X : Type 0} (v : Checked) (x y : X) → Ok x ≡ answered v y → (v ≡ Ok tt) × (x ≡ y)
+answered-accepted (Ok tt) x y e = (refl, cc)
+answered-accepted (Err r) x y e = let z : ◌≡◌ {A = ℕ} 0 1 = cc in absurd (omega arith)
 
-pub answered-refused : {X : Type 0} (v : Checked) (y : X) (number place : ℕ) → refused number place ≡ answered v y → v ≡ Fail number place
-answered-refused Pass y number place e = let z : ◌≡◌ {A = ℕ} 0 1 = cc in absurd (omega arith)
-answered-refused (Fail n p) y number place e = cc
+pub answered-refused : {X : Type 0} (v : Checked) (y : X) (number place : ℕ) → refused number place ≡ answered v y → v ≡ refused number place
+answered-refused (Ok tt) y number place e = let z : ◌≡◌ {A = ℕ} 0 1 = cc in absurd (omega arith)
+answered-refused (Err r) y number place e = cc
 
 -- and the other way round
-pub accepted-answered : {X : Type 0} {v : Checked} {x y : X} → v ≡ Pass → x ≡ y → accepted x ≡ answered v y
+pub accepted-answered : {X : Type 0} {v : Checked} {x y : X} → v ≡ Ok tt → x ≡ y → Ok x ≡ answered v y
 accepted-answered e h = rw (e, h)
 
-pub refused-answered : {X : Type 0} {v : Checked} (y : X) {number place : ℕ} → v ≡ Fail number place → refused number place ≡ answered v y
+pub refused-answered : {X : Type 0} {v : Checked} (y : X) {number place : ℕ} → v ≡ refused number place → refused number place ≡ answered v y
 refused-answered y e = rw e
 
 -- what an accepted call leaves, and a refused one
-pub after-pass : {X : Type 0} {v : Checked} {x new : X} (old : X) → v ≡ Pass → x ≡ new → x ≡ after v new old
+pub after-pass : {X : Type 0} {v : Checked} {x new : X} (old : X) → v ≡ Ok tt → x ≡ new → x ≡ after v new old
 after-pass {new = new} old p e = e ∙ ap (λ w. after w new old) (sym p)
 
-pub after-fail : {X : Type 0} {v : Checked} (new old : X) {number place : ℕ} → v ≡ Fail number place → old ≡ after v new old
+pub after-fail : {X : Type 0} {v : Checked} (new old : X) {number place : ℕ} → v ≡ refused number place → old ≡ after v new old
 after-fail new old f = ap (λ w. after w new old) (sym f)
 
 -- ---- what verdicts mean
@@ -144,20 +160,20 @@ decides-for true number place e =
 decides-for false number place e =
     record {
       passes = (λ q. absurd (no-pass q refl), λ q. absurd (clash (e.1 q) refl));
-      fails = λ n p. (λ q. (cc, (cc, λ h. absurd (clash (e.1 h) refl))), λ q. cc (q.0, q.1.0));
+      fails = λ n p. (λ q. (sym (refused-number q), (sym (refused-place q), λ h. absurd (clash (e.1 h) refl))), λ q. cc (q.0, q.1.0));
     }
 
 pub decides-unless : (b : Bool) (number : ℕ) {P : Type 0} → (b ≡ true) ↔ P → Decides (unless b number 0) (rule number P)
 decides-unless b number e = decides-for b number 0 e
 
 -- rules in order
-pub decides-none : DecidesAll Pass []
+pub decides-none : DecidesAll (Ok tt) []
 unfolding Holds Broken
 decides-none = record { passes = (λ q. tt, λ q. refl); fails = λ n p. (λ q. no-pass refl q, λ q. absurd q) }
 
 pub decides-then : (v w : Checked) (r : Rule) (rs : List Rule) → Decides v r → DecidesAll w rs → DecidesAll (both v w) (r ∷ rs)
 unfolding Holds Broken
-decides-then Pass w r rs d e =
+decides-then (Ok tt) w r rs d e =
     record {
       passes = (λ q. (d.passes.0 refl, e.passes.0 q), λ h. e.passes.1 h.1);
       fails =
@@ -166,7 +182,7 @@ decides-then Pass w r rs d e =
             λ h. ⊎_elim (λ f. absurd (no-pass refl ((d.fails n p).1 f))) (λ g. (e.fails n p).1 g.1) h,
           );
     }
-decides-then (Fail a b) w r rs d e =
+decides-then (Err s) w r rs d e =
     record {
       passes = (λ q. absurd (no-pass q refl), λ h. absurd (no-pass (d.passes.1 h.0) refl));
       fails =
@@ -178,7 +194,7 @@ decides-then (Fail a b) w r rs d e =
 
 -- one rule alone, as a list of rules
 pub alone : (v : Checked) (r : Rule) → Decides v r → DecidesAll v (r ∷ [])
-alone v r d = subst (λ x. DecidesAll x (r ∷ [])) (both-pass v) (decides-then v Pass r [] d decides-none)
+alone v r d = subst (λ x. DecidesAll x (r ∷ [])) (both-pass v) (decides-then v (Ok tt) r [] d decides-none)
 
 -- one list of rules after another
 pub holds-append : (rs ss : List Rule) → Holds (rs ++ ss) ↔ (Holds rs × Holds ss)
@@ -208,8 +224,8 @@ broken-append (r ∷ rs) ss n p = (to (broken-append rs ss n p).0, from (broken-
     from k (inr h) = inr (h.0.0, k (inr (h.0.1, h.1)))
 
 -- the second verdict counts only where the first passed, so only there it has to decide its rules
-pub decides-after : (v w : Checked) (rs ss : List Rule) → DecidesAll v rs → (v ≡ Pass → DecidesAll w ss) → DecidesAll (both v w) (rs ++ ss)
-decides-after Pass w rs ss d e =
+pub decides-after : (v w : Checked) (rs ss : List Rule) → DecidesAll v rs → (v ≡ Ok tt → DecidesAll w ss) → DecidesAll (both v w) (rs ++ ss)
+decides-after (Ok tt) w rs ss d e =
     record {
       passes = (λ q. (holds-append rs ss).1 (d.passes.0 refl, (e refl).passes.0 q), λ h. (e refl).passes.1 ((holds-append rs ss).0 h).1);
       fails =
@@ -218,7 +234,7 @@ decides-after Pass w rs ss d e =
             λ h. ⊎_elim (λ f. absurd (no-pass refl ((d.fails n p).1 f))) (λ g. ((e refl).fails n p).1 g.1) ((broken-append rs ss n p).0 h),
           );
     }
-decides-after (Fail a b) w rs ss d e =
+decides-after (Err r) w rs ss d e =
     record {
       passes = (λ q. absurd (no-pass q refl), λ h. absurd (no-pass (d.passes.1 ((holds-append rs ss).0 h).0) refl));
       fails =
@@ -257,7 +273,7 @@ module _ (check : ℕ → Checked) where
       rw (e, z) (ap (both (check i)) (each_append (suc i) k l) ∙ sym (both-assoc (check i) (each_from check (suc i) k) (each_from check (suc i + k) l)))
 
   -- all pass exactly if each does
-  pub each-passes : (i k : ℕ) → (each_from check i k ≡ Pass) ↔ ((j : ℕ) → i ≤ j → j < i + k → check j ≡ Pass)
+  pub each-passes : (i k : ℕ) → (each_from check i k ≡ Ok tt) ↔ ((j : ℕ) → i ≤ j → j < i + k → check j ≡ Ok tt)
   unfolding each_from
   each-passes i zero = (λ q j a b. absurd (omega arith), λ h. refl)
   each-passes i (suc k) = (
@@ -265,8 +281,8 @@ module _ (check : ℕ → Checked) where
     λ h. rw (h i (omega arith) (omega arith)) ((each-passes (suc i) k).1 (λ j a b. h j (omega arith) (omega arith))),
   )
     where
-      go : (j : ℕ) → i ≤ j → j < i + suc k → check i ≡ Pass → (suc i ≤ j → j < suc i + k → check j ≡ Pass) → Dec (i ≡ j) → check j ≡ Pass
-      go j a b p q (yes e) = subst (λ x. check x ≡ Pass) e p
+      go : (j : ℕ) → i ≤ j → j < i + suc k → check i ≡ Ok tt → (suc i ≤ j → j < suc i + k → check j ≡ Ok tt) → Dec (i ≡ j) → check j ≡ Ok tt
+      go j a b p q (yes e) = subst (λ x. check x ≡ Ok tt) e p
       go j a b p q (no e) = q (omega arith) (omega arith)
 
 -- every place of a range passes its test, and every place below k
@@ -329,7 +345,7 @@ module _ (good : ℕ → Bool) (P : ℕ → Type 0) (e : (i : ℕ) → (good i �
           passes = (λ q. absurd (no-pass q refl), λ h. absurd (clash ((e i).1 (h i (omega arith) (omega arith))) s));
           fails =
               λ n p. (
-                λ q. let a : number ≡ n = cc in let b : i ≡ p = cc in (sym a, ((omega arith, omega arith), (subst (λ x. P x → ⊥) b (λ h. clash ((e i).1 h) s), λ j x y. absurd (omega arith)))),
+                λ q. let a : number ≡ n = refused-number q in let b : i ≡ p = refused-place q in (sym a, ((omega arith, omega arith), (subst (λ x. P x → ⊥) b (λ h. clash ((e i).1 h) s), λ j x y. absurd (omega arith)))),
                 λ h. let b : p ≡ i = here h.1 in cc (h.0, b),
               );
         })

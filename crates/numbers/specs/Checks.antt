@@ -1,29 +1,44 @@
 -- Checks in their order: each has a number and a place, the first that fails decides, and a rule says what it means. Assumes nothing.
-use Rattle.std.specs.Prelude.{◌≡◌, ◌⊎◌, ◌↔◌, Bool, true, false, ◌&&◌, List, [], ◌∷◌, ◌++◌, ℕ, zero, suc, ◌<◌, ltb, leb, eqb, ℤ, pos, ◌≤ℤ◌}
+use Rattle.std.specs.Prelude.{◌≡◌, ◌⊎◌, ◌↔◌, Bool, true, false, ◌&&◌, List, [], ◌∷◌, ◌++◌, ℕ, zero, suc, ◌<◌, ltb, leb, eqb, ℤ, pos, ◌≤ℤ◌, Result, Ok, Err}
 use Rattle.std.specs.Int.Signed.{le_z}
-use Rattle.numbers.specs.declared.Checked.{Checked}
-use Rattle.numbers.specs.declared.Checked.TheVariants.{Pass, Fail}
+use Rattle.numbers.specs.declared.Refusal.{Refusal}
+
+-- ---- answers
+
+-- what an operation answers: its values, or why it is refused
+abbrev pub Answered : Type 0 → Type 0
+Answered X = Result X Refusal
+
+-- what a check finds: it passes, or it is why the call is refused
+abbrev pub Checked : Type 0
+Checked = Answered Unit
+
+abbrev pub refusal : ℕ → ℕ → Refusal
+refusal number place = record { number = number; place = place }
+
+abbrev pub refused : {X : Type 0} → ℕ → ℕ → Answered X
+refused number place = Err (record { number = number; place = place })
 
 -- ---- verdicts
 
 -- passes if the test holds, else fails with the number and the place
 abbrev pub unless : Bool → ℕ → ℕ → Checked
-unless true number place = Pass
-unless false number place = Fail number place
+unless true number place = Ok tt
+unless false number place = refused number place
 
 -- the first of two that fails
 abbrev pub both : Checked → Checked → Checked
-both Pass v = v
-both (Fail number place) v = Fail number place
+both (Ok tt) v = v
+both (Err r) v = Err r
 
 -- the first of a list that fails: the list is the order of the checks
 abbrev pub first : List Checked → Checked
-first [] = Pass
+first [] = Ok tt
 first (v ∷ vs) = both v (first vs)
 
 -- the checks of the k places from i on, in turn
 unfoldable pub each_from : (ℕ → Checked) → ℕ → ℕ → Checked
-each_from check i zero = Pass
+each_from check i zero = Ok tt
 each_from check i (suc k) = both (check i) (each_from check (suc i) k)
 
 -- of the k places from i on, the first that fails its test
@@ -35,21 +50,15 @@ unfoldable pub every_from : (ℕ → Bool) → ℕ → ℕ → Bool
 every_from good i zero = true
 every_from good i (suc k) = good i && every_from good (suc i) k
 
--- ---- answers
-
--- what an operation tells: its values, or a refusal's number and place
-pub data Answered (X : Type 0) : Type 0 where
-  accepted : X → Answered X
-  refused : ℕ → ℕ → Answered X
-
+-- the values of a call by its verdict
 abbrev pub answered : {X : Type 0} → Checked → X → Answered X
-answered Pass values = accepted values
-answered (Fail number place) values = refused number place
+answered (Ok tt) values = Ok values
+answered (Err r) values = Err r
 
 -- what a lent list holds afterwards: what an accepted call writes; what it held, if the call is refused
 abbrev pub after : {X : Type 0} → Checked → X → X → X
-after Pass new old = new
-after (Fail number place) new old = old
+after (Ok tt) new old = new
+after (Err r) new old = old
 
 -- ---- what verdicts mean
 
@@ -62,8 +71,8 @@ pub record Rule : Type 1 where
 -- a verdict decides a rule: it passes exactly if the fact holds, and fails with a number at a place exactly if this is the rule's number
 -- and the rule is broken there
 pub record Decides (v : Checked) (r : Rule) : Type 0 where
-  pub passes : (v ≡ Pass) ↔ r.fact
-  pub fails : (number place : ℕ) → (v ≡ Fail number place) ↔ ((number ≡ r.number) × r.fault place)
+  pub passes : (v ≡ Ok tt) ↔ r.fact
+  pub fails : (number place : ℕ) → (v ≡ refused number place) ↔ ((number ≡ r.number) × r.fault place)
 
 -- one fact: broken, it fails at this place
 abbrev pub rule_for : ℕ → ℕ → Type 0 → Rule
@@ -93,8 +102,8 @@ Broken (r ∷ rs) number place = ((number ≡ r.number) × r.fault place) ⊎ (r
 
 -- a verdict decides rules in order
 pub record DecidesAll (v : Checked) (rs : List Rule) : Type 0 where
-  pub passes : (v ≡ Pass) ↔ Holds rs
-  pub fails : (number place : ℕ) → (v ≡ Fail number place) ↔ Broken rs number place
+  pub passes : (v ≡ Ok tt) ↔ Holds rs
+  pub fails : (number place : ℕ) → (v ≡ refused number place) ↔ Broken rs number place
 
 -- the rules of the k places from i on, in turn
 unfoldable pub rules_from : (ℕ → List Rule) → ℕ → ℕ → List Rule
@@ -121,7 +130,7 @@ RefuseWith rs ns = (n : ℕ) → OneOf (numbers_of rs) n ↔ OneOf ns n
 pub data Extends (Own : ℕ → Type 0) : List Checked → List Checked → Type 0 where
   end : Extends Own [] []
   shared : {v : Checked} {vs ws : List Checked} → Extends Own vs ws → Extends Own (v ∷ vs) (v ∷ ws)
-  extra : {v : Checked} {vs ws : List Checked} → ((number place : ℕ) → v ≡ Fail number place → Own number) → Extends Own vs ws → Extends Own (v ∷ vs) ws
+  extra : {v : Checked} {vs ws : List Checked} → ((number place : ℕ) → v ≡ refused number place → Own number) → Extends Own vs ws → Extends Own (v ∷ vs) ws
 
 -- ---- checks that several operations share
 

@@ -3,13 +3,38 @@
 // The functions are for the crates above; none of them is an operation. Relies on no other crate.
 #![tactic(auto)]
 
-// What a check finds: it passes, or it fails with 01's number and place.
-#[derive(Clone, Copy)]
-pub enum Checked {
-    Pass,
-    Fail { number: u32, place: u32 },
-}
+ghost use Rattle.std.specs.Prelude.{◌≡◌, ◌<◌, ◌^◌};
+ghost use Rattle.numbers.specs.Checks.{refusal};
+
+use std::fmt;
 
 pub mod arith;
 pub mod checks;
 pub mod lists;
+
+// Why a call is refused: 01's number of the check that failed, and the place. The number is what files, texts and the calls from C give.
+#[derive(Clone, Copy, Debug, PartialEq, Eq)]
+pub struct Refusal {
+    pub number: u32,
+    pub place: u32,
+}
+
+impl Refusal {
+    // The refusal at an index.
+    pub fn at(number: u32, index: usize) -> Refusal
+        requires { index < 2 ^ 32 }
+        ensures { result ≡ refusal number index }
+    {
+        Refusal {
+            number,
+            place: index as u32,
+        }
+    }
+}
+
+// As every program prints it.
+impl fmt::Display for Refusal {
+    fn fmt<W: fmt::Write>(&self, f: &mut fmt::Formatter<W>) -> fmt::Result {
+        write!(f, "refused {} {}", self.number, self.place)
+    }
+}

@@ -1,5 +1,6 @@
 -- What each of the checks 1 to 8 decides: it passes exactly if its rule holds, and fails with its number at its place exactly if the
 -- rule is broken there. Assumes nothing.
+use Rattle.std.specs.Prelude.{Ok}
 use mathlib.Core.Path.{◌≡◌, refl, ap, subst}
 use mathlib.Core.Logic.{◌≢◌, ◌⊎◌, inl, inr, ⊎_elim, ◌↔◌}
 use mathlib.Core.Bool.{Bool, true, false, not, cond, ◌&&◌, ◌||◌}
@@ -10,7 +11,6 @@ use native.Mathlib.Decide.{ℕ_discrete}
 use lib.Dec.{eqb, leb}
 use lib.ListN.{length}
 use borrow.Author.Tests.{ltb-false, le-ltb, eq-eqb, ne_eqb, not-true}
-use Rattle.numbers.specs.declared.Checked.TheVariants.{Pass}
 use Rattle.numbers.specs.Lists.{at, sum}
 use Rattle.numbers.specs.Checks.{both, Decides, DecidesAll, rule, rule_at, Holds, max_total}
 use Rattle.numbers.proofs.TestLaws.{clash, and-means, lt-means, le-means, eq-means}
@@ -58,7 +58,7 @@ module _ (f : Lists) (k s : ℕ) where
     λ r. ((r.some, r.few), ((r.nodes_room, r.nodes_few), (r.lengths, tt))),
   )
 
-  pub shape-fits : (shape_of k f s ≡ Pass) ↔ ShapeFits f k s
+  pub shape-fits : (shape_of k f s ≡ Ok tt) ↔ ShapeFits f k s
   shape-fits = (λ e. shape-holds.0 (shape-decides.passes.0 e), λ r. shape-decides.passes.1 (shape-holds.1 r))
 
 -- the scratch counts by the test of 3 alone
@@ -177,15 +177,15 @@ module _ (f : Lists) where
     λ r. (r.tree, (r.order, (r.safe_highs, (r.weights, tt)))),
   )
 
-  pub values-fit : (check_values f ≡ Pass) ↔ ValuesFit f
+  pub values-fit : (check_values f ≡ Ok tt) ↔ ValuesFit f
   values-fit = (λ e. values-hold.0 (values-decides.passes.0 e), λ r. values-decides.passes.1 (values-hold.1 r))
 
 -- 8, as the last of a chain
 module _ (f : Lists) (M : ℕ) where
-  pub reaches-decides : DecidesAll (both (check_reach f.safe_lows f.safe_highs M) Pass) (reach_rule f M ∷ [])
+  pub reaches-decides : DecidesAll (both (check_reach f.safe_lows f.safe_highs M) (Ok tt)) (reach_rule f M ∷ [])
   reaches-decides = decides-then _ _ _ _ (reach-decides f.safe_lows f.safe_highs M) decides-none
 
-  pub reaches : (check_reach f.safe_lows f.safe_highs M ≡ Pass) ↔ Reaches f M
+  pub reaches : (check_reach f.safe_lows f.safe_highs M ≡ Ok tt) ↔ Reaches f M
   reaches =
       let d = (reach-decides f.safe_lows f.safe_highs M).passes in
       (λ e. record { least = (d.0 e).0; most = (d.0 e).1 }, λ r. d.1 (r.least, r.most))

@@ -1,11 +1,11 @@
 -- Of the fields of specs/Example.antt: the second is the first edited below node 4, both are past checks 1 to 7, and for M 20 they have other masses
 -- below that node and the same ones outside; with another sum of targets the masses outside are others. Assumes nothing.
+use Rattle.std.specs.Prelude.{Ok}
 use mathlib.Core.Path.{◌≡◌, refl}
 use mathlib.Core.Bool.{true≢false}
 use mathlib.Core.List.{[], ◌∷◌}
 use Prim.Native.Nat.{ℕ, zero, suc, ◌<◌}
 use native.Mathlib.Omega.{arith}
-use Rattle.numbers.specs.declared.Checked.TheVariants.{Pass}
 use Rattle.numbers.specs.Sums.{sum_to}
 use Rattle.numbers.specs.Lists.{list_to}
 use Rattle.numbers.specs.Signed.{min_ℤ, max_ℤ}
@@ -41,7 +41,7 @@ example-edited =
 
 -- with a list of 4 masses and a scratch of 28 numbers
 abbrev Passes : Lists → Type 0
-Passes f = (shape_of 4 f 28 ≡ Pass) × (check_values f ≡ Pass)
+Passes f = (shape_of 4 f 28 ≡ Ok tt) × (check_values f ≡ Ok tt)
 
 passes : Passes plain × Passes edited
 unfolding sum_to each_from first_from check_count child_of any_child parent_ok node_ok check_nodes check_lists check_tree bounds_ordered check_order check_sum check_shape check_values

@@ -15,7 +15,8 @@ use Rattle.caas_spec.specs.Split.{clipped, deficit, result, Proportional}
 use Rattle.caas_spec.proofs.GroupLaws.{in-ext, in-none, in_pos}
 use Rattle.caas_spec.proofs.SplitLaws.{nat-within, moved-adds, result-nearest, distance-ext, result-proportional}
 use Rattle.qlt_spec.specs.Tree.{child_of, Valid}
-use Rattle.qlt_spec.specs.Field.{Field, Outcome, Ordered, outcome, low_in, high_in, Meets, change_of, sum_cells}
+use Rattle.qlt_spec.specs.Field.{Field, Ordered, outcome, low_in, high_in, Meets, change_of, sum_cells}
+use Rattle.qlt_spec.specs.declared.Outcome.{Outcome}
 use Rattle.qlt_spec.specs.Masses.{group_of, tree_mass, tree_masses, shared_of, tree_shared}
 use Rattle.qlt_spec.specs.Facts.{shared_by, Summed, FieldFacts}
 use Rattle.qlt_spec.proofs.TreeLaws.{node_sum-inner, node_sum-cell, node_sum-ext}

@@ -5,14 +5,16 @@ use native.Mathlib.Omega.{arith}
 use lib.Dec.{ltb}
 use borrow.Author.Tests.{ltb-true, ltb-false}
 use Rattle.numbers.proofs.TestLaws.{Tested, holds, fails, tested}
-use Rattle.qlt_spec.specs.Field.{Field, Outcome, attainable, below, above, Ordered, outcome, low_in, high_in, sum_cells}
+use Rattle.qlt_spec.specs.Field.{Field, Ordered, outcome, low_in, high_in, sum_cells}
+use Rattle.qlt_spec.specs.declared.Outcome.{Outcome}
+use Rattle.qlt_spec.specs.declared.Outcome.TheVariants.{Attainable, Below, Above}
 
 module _ (F : Field) (M : ℕ) where
   -- each outcome with what it says of the sums
   pub data Case : Type 0 where
-    is-attainable : sum_cells F F.low ≤ M → M ≤ sum_cells F F.high → outcome F M ≡ attainable → Case
-    is_below : M < sum_cells F F.low → outcome F M ≡ below → Case
-    is-above : sum_cells F F.low ≤ M → sum_cells F F.high < M → outcome F M ≡ above → Case
+    is-attainable : sum_cells F F.low ≤ M → M ≤ sum_cells F F.high → outcome F M ≡ Attainable → Case
+    is_below : M < sum_cells F F.low → outcome F M ≡ Below → Case
+    is-above : sum_cells F F.low ≤ M → sum_cells F F.high < M → outcome F M ≡ Above → Case
 
   -- one of the three holds
   pub case : Case
@@ -40,20 +42,20 @@ module _ (F : Field) (ordered : (c : ℕ) → c < F.n → Ordered F c) where
   -- the bounds in force are in order
   pub force-order : (o : Outcome) (c : ℕ) → c < F.n → low_in o F c ≤ high_in o F c
   unfolding low_in high_in
-  force-order attainable c l = (ordered c l).high
-  force-order below c l = (ordered c l).low
-  force-order above c l = (ordered c l).safe
+  force-order Attainable c l = (ordered c l).high
+  force-order Below c l = (ordered c l).low
+  force-order Above c l = (ordered c l).safe
 
   -- they lie within the safety bounds: the lows
   pub force-safe-low : (o : Outcome) (c : ℕ) → c < F.n → F.safe_low c ≤ low_in o F c
   unfolding low_in
-  force-safe-low attainable c l = (ordered c l).low
-  force-safe-low below c l = omega arith
-  force-safe-low above c l = omega (arith, ordered c l)
+  force-safe-low Attainable c l = (ordered c l).low
+  force-safe-low Below c l = omega arith
+  force-safe-low Above c l = omega (arith, ordered c l)
 
   -- and the highs
   pub force-safe-high : (o : Outcome) (c : ℕ) → c < F.n → high_in o F c ≤ F.safe_high c
   unfolding high_in
-  force-safe-high attainable c l = (ordered c l).safe
-  force-safe-high below c l = omega (arith, ordered c l)
-  force-safe-high above c l = omega arith
+  force-safe-high Attainable c l = (ordered c l).safe
+  force-safe-high Below c l = omega (arith, ordered c l)
+  force-safe-high Above c l = omega arith

@@ -1,6 +1,7 @@
 -- Reconstruct agrees with its former version: only the bound of check 3 differs, and with scratch enough for each the two refuse alike, give
 -- one answer and leave the same masses. Assumes nothing.
 use mathlib.Core.Path.{◌≡◌, refl, sym, ◌∙◌, ap}
+use Rattle.qlt_spec.specs.declared.Repair.{Repair}
 use mathlib.Core.Logic.{inl, inr}
 use mathlib.Core.List.{List, [], ◌∷◌}
 use Prim.Native.Nat.{ℕ, ◌*◌, ◌≤◌, ◌<◌}
@@ -9,17 +10,14 @@ use lib.Dec.{leb}
 use lib.IntN.{ℤ}
 use lib.ListN.{length}
 use borrow.Author.Tests.{le-leb, lt-leb}
-use Rattle.numbers.specs.declared.Checked.{Checked}
-use Rattle.numbers.specs.declared.Checked.TheVariants.{Fail}
-use Rattle.numbers.specs.Checks.{Answered, answered, after, first, Broken}
-use Rattle.qlt_spec.specs.declared.Reconstructed.{Reconstructed}
+use Rattle.numbers.specs.Checks.{Checked, refused, Answered, answered, after, first, Broken}
 use Rattle.qlt_spec.specs.Field.{Lists, nodes, scratch_per_node, field}
 use Rattle.qlt_spec.specs.Masses.{tree_masses}
 use Rattle.qlt_spec.specs.Checks.{shape_with, check_values, check_reach}
 use Rattle.qlt_spec.specs.Operation.{ReconstructCall, reconstruct_call, reconstruct_verdict, shape_rules, ShapeFits, cleared, RepairTellsWith, ReconstructContract}
 use Rattle.qlt_spec.specs.Former.{former_per_node, former_verdict, FormerContract}
 use Rattle.qlt_spec.proofs.CheckLaws.{shape-decides, shape-by}
-use Rattle.qlt_spec.proofs.OperationLaws.{checks-by, reconstruct-tells-injective}
+use Rattle.qlt_spec.proofs.OperationLaws.{checks-by}
 
 -- the test of 3, where both have enough scratch and where both have too little
 pub both-enough : (f : Lists) {s s' : ℕ} → former_per_node * nodes f ≤ s → scratch_per_node * nodes f ≤ s' → leb (former_per_node * nodes f) s ≡ leb (scratch_per_node * nodes f) s'
@@ -64,16 +62,14 @@ module _ (f : Lists) (M : ℕ) (masses : List ℕ) (s s' : List ℤ) where
   module _ (enough : former_per_node * nodes f ≤ length s) (enough' : scratch_per_node * nodes f ≤ length s') where
     -- the same answer, so the same outcome, change, sum shared out or refusal, and the same masses
     pub former-agrees :
-        (answer answer' : Reconstructed) {y y' : List ℕ} {t t' : List ℤ}
+        (answer answer' : Answered Repair) {y y' : List ℕ} {t t' : List ℤ}
         → FormerContract (reconstruct_call f M masses s) answer y t
         → ReconstructContract (reconstruct_call f M masses s') answer' y' t' → (answer ≡ answer') × (y ≡ y')
-    former-agrees answer answer' p q =
-        let r = tells-agree (former-by (both-enough f enough enough')) p q in
-        (reconstruct-tells-injective answer answer' r.0, r.1)
+    former-agrees answer answer' p q = tells-agree (former-by (both-enough f enough enough')) p q
 
     -- what this version answers and writes, the former one does
     pub former-holds :
-        (answer : Reconstructed) {y : List ℕ} {t : List ℤ} → ReconstructContract (reconstruct_call f M masses s') answer y t
+        (answer : Answered Repair) {y : List ℕ} {t : List ℤ} → ReconstructContract (reconstruct_call f M masses s') answer y t
         → FormerContract (reconstruct_call f M masses s) answer y (after (former_verdict (reconstruct_call f M masses s)) (cleared (former_per_node * nodes f) s) s)
     former-holds answer q = tells_alike (former-by (both-enough f enough enough')) q
 
@@ -83,7 +79,7 @@ former-verdict c h = former-by c.lists c.total c.masses c.scratch c.scratch (bot
 
 -- ---- where this version finds enough scratch and the former one too little, that one refuses with 3
 
-pub former-shape : (f : Lists) (k s : ℕ) → ShapeFits f k s → s < former_per_node * nodes f → shape_with former_per_node k f s ≡ Fail 3 0
+pub former-shape : (f : Lists) (k s : ℕ) → ShapeFits f k s → s < former_per_node * nodes f → shape_with former_per_node k f s ≡ refused 3 0
 unfolding shape_rules Broken
 former-shape f k s h l =
     shape-by former_per_node scratch_per_node k f s 0 (both-short f l none)
@@ -95,7 +91,7 @@ former-shape f k s h l =
 
 pub former-refuses :
     (c : ReconstructCall) → ShapeFits c.lists (length c.masses) (length c.scratch) → length c.scratch < former_per_node * nodes c.lists
-    → former_verdict c ≡ Fail 3 0
+    → former_verdict c ≡ refused 3 0
 unfolding former_verdict
 former-refuses c h l =
     ap (λ v. first (v ∷ check_values c.lists ∷ check_reach c.lists.safe_lows c.lists.safe_highs c.total ∷ []))

@@ -1,5 +1,5 @@
--- What Reconstruct's verdict means, that an answer tells its verdict and its values and nothing else, and what the contract alone says
--- of an accepted and of a refused call. Assumes nothing.
+-- What Reconstruct's verdict means, and what the contract alone says of an accepted and of a refused call. Assumes nothing.
+use Rattle.std.specs.Prelude.{Ok}
 use mathlib.Core.Path.{◌≡◌, refl, sym, ◌∙◌, ap, subst}
 use mathlib.Core.Logic.{◌↔◌}
 use mathlib.Core.List.{List, [], ◌∷◌}
@@ -8,22 +8,17 @@ use native.Mathlib.Omega.{arith}
 use lib.Dec.{leb}
 use lib.IntN.{ℤ}
 use lib.ListN.{length}
-use Rattle.numbers.specs.declared.Checked.{Checked}
-use Rattle.numbers.specs.declared.Checked.TheVariants.{Pass, Fail}
 use Rattle.numbers.specs.Sums.{ℕ_adds, sum_to}
 use Rattle.numbers.specs.Lists.{at, sum}
-use Rattle.numbers.specs.Checks.{Answered, accepted, refused, answered, after, first, both, DecidesAll, Broken, RefuseWith}
-use Rattle.numbers.proofs.TestLaws.{injective}
+use Rattle.numbers.specs.Checks.{Checked, Answered, refused, answered, after, first, both, DecidesAll, Broken, RefuseWith}
 use Rattle.numbers.proofs.CheckLaws.{answered-accepted, answered-refused, after-fail, on, last, both_first, both-second, decides-append}
 use Rattle.numbers.proofs.ChainLaws.{refuse-with}
 use Rattle.qlt_spec.specs.declared.Repair.{Repair}
-use Rattle.qlt_spec.specs.declared.Reconstructed.{Reconstructed}
-use Rattle.qlt_spec.specs.declared.Reconstructed.TheVariants.{Done, Refused}
 use Rattle.qlt_spec.specs.Tree.{Valid}
 use Rattle.qlt_spec.specs.Field.{Lists, cells, nodes, scratch_per_node, field, sum_cells}
 use Rattle.qlt_spec.specs.Masses.{tree_masses}
 use Rattle.qlt_spec.specs.Checks.{shape_with, shape_of, check_values, check_reach}
-use Rattle.qlt_spec.specs.Operation.{ReconstructCall, reconstruct_call, reconstruct_checks_with, reconstruct_verdict, FieldLengths, shape_rules, value_rules, reconstruct_rules, ShapeFits, ValuesFit, ReconstructFits, repair, reconstruct_tells, reconstruct_answer, cleared, Leaves, RepairTells, ReconstructContract}
+use Rattle.qlt_spec.specs.Operation.{ReconstructCall, reconstruct_call, reconstruct_checks_with, reconstruct_verdict, FieldLengths, shape_rules, value_rules, reconstruct_rules, ShapeFits, ValuesFit, ReconstructFits, repair, cleared, Leaves, RepairTells, ReconstructContract}
 use Rattle.qlt_spec.specs.Facts.{shared_by, FieldFacts}
 use Rattle.qlt_spec.proofs.FactLaws.{facts}
 use Rattle.qlt_spec.proofs.CheckLaws.{shape-decides, shape-fits, shape-by, values-decides, values-fit, reaches-decides, reaches, valid}
@@ -47,13 +42,13 @@ module _ (c : ReconstructCall) where
   pub reconstruct-decides : DecidesAll (reconstruct_verdict c) (reconstruct_rules c)
   unfolding reconstruct_verdict
   reconstruct-decides =
-      decides-append (shape_of k c.lists s) (both (check_values c.lists) (both reach Pass)) (shape_rules c.lists k s) _ (shape-decides c.lists k s)
-      (decides-append (check_values c.lists) (both reach Pass) (value_rules c.lists) _ (values-decides c.lists) (reaches-decides c.lists c.total))
+      decides-append (shape_of k c.lists s) (both (check_values c.lists) (both reach (Ok tt))) (shape_rules c.lists k s) _ (shape-decides c.lists k s)
+      (decides-append (check_values c.lists) (both reach (Ok tt)) (value_rules c.lists) _ (values-decides c.lists) (reaches-decides c.lists c.total))
 
-  pub reconstruct-refuses : (number place : ℕ) → (reconstruct_verdict c ≡ Fail number place) ↔ Broken (reconstruct_rules c) number place
+  pub reconstruct-refuses : (number place : ℕ) → (reconstruct_verdict c ≡ refused number place) ↔ Broken (reconstruct_rules c) number place
   reconstruct-refuses = reconstruct-decides.fails
 
-  pub reconstruct-accepts : (reconstruct_verdict c ≡ Pass) ↔ ReconstructFits c
+  pub reconstruct-accepts : (reconstruct_verdict c ≡ Ok tt) ↔ ReconstructFits c
   unfolding reconstruct_verdict
   reconstruct-accepts = (
     λ e.
@@ -61,7 +56,7 @@ module _ (c : ReconstructCall) where
         record {
           shape = (shape-fits c.lists k s).0 (both_first (shape_of k c.lists s) _ e);
           values = (values-fit c.lists).0 (both_first (check_values c.lists) _ p);
-          reach = (reaches c.lists c.total).0 (both_first reach Pass (both-second (check_values c.lists) _ p));
+          reach = (reaches c.lists c.total).0 (both_first reach (Ok tt) (both-second (check_values c.lists) _ p));
         },
     λ r.
         sym (on ((shape-fits c.lists k s).1 r.shape)
@@ -82,16 +77,7 @@ checks-by p p' f M masses masses' scratch scratch' e h =
     ap (λ v. first (v ∷ check_values f ∷ check_reach f.safe_lows f.safe_highs M ∷ []))
     (ap (λ k. shape_with p k f (length scratch)) e ∙ shape-by p p' (length masses') f (length scratch) (length scratch') h)
 
--- ---- the answer
-
--- what an answer tells is the answer
-pub reconstruct-tells-injective : (a b : Reconstructed) → reconstruct_tells a ≡ reconstruct_tells b → a ≡ b
-unfolding reconstruct_tells
-reconstruct-tells-injective = injective reconstruct_answer back
-  where
-    back : (a : Reconstructed) → reconstruct_answer (reconstruct_tells a) ≡ a
-    back (Done r) = refl
-    back (Refused number place) = refl
+-- ---- what an accepted and a refused call tells
 
 -- the sums of the safety bounds are those over the cells
 module _ {f : Lists} {k s : ℕ} (l : FieldLengths f k s) where
@@ -113,8 +99,8 @@ fits-facts c f =
 
 module _ {X : Type 0} {v : Checked} {c : ReconstructCall} {x : X} {masses : List ℕ} {scratch : List ℤ} where
   -- a call that told a result passed; its answer, its masses and its scratch are what the definitions say
-  module _ {r : X} (p : RepairTells v c x (accepted r) masses scratch) where
-    pub told-passed : v ≡ Pass
+  module _ {r : X} (p : RepairTells v c x (Ok r) masses scratch) where
+    pub told-passed : v ≡ Ok tt
     told-passed = (answered-accepted v r x p.answers).0
 
     pub told-result : r ≡ x
@@ -128,7 +114,7 @@ module _ {X : Type 0} {v : Checked} {c : ReconstructCall} {x : X} {masses : List
 
   -- one that told a refusal was refused so, and left both lists as they were
   module _ {number place : ℕ} (p : RepairTells v c x (refused number place) masses scratch) where
-    pub told-failed : v ≡ Fail number place
+    pub told-failed : v ≡ refused number place
     told-failed = answered-refused v x number place p.answers
 
     pub told-kept : (masses ≡ c.masses) × (scratch ≡ c.scratch)
@@ -138,22 +124,21 @@ module _ {X : Type 0} {v : Checked} {c : ReconstructCall} {x : X} {masses : List
     )
 
 -- and the contract by the verdict: of a call that is refused, and of one that is accepted
-pub leaves-refused : {v : Checked} (c : ReconstructCall) {number place : ℕ} → v ≡ Fail number place → Leaves v c c.masses c.scratch
+pub leaves-refused : {v : Checked} (c : ReconstructCall) {number place : ℕ} → v ≡ refused number place → Leaves v c c.masses c.scratch
 leaves-refused c e = record { writes = after-fail _ _ e; clears = after-fail _ _ e }
 
 pub contract-refused :
-    {X : Type 0} {v : Checked} (c : ReconstructCall) (x : X) {number place : ℕ} → v ≡ Fail number place
+    {X : Type 0} {v : Checked} (c : ReconstructCall) (x : X) {number place : ℕ} → v ≡ refused number place
     → RepairTells v c x (refused number place) c.masses c.scratch
 contract-refused c x e = record { answers = ap (λ w. answered w x) (sym e); leaves = leaves-refused c e }
 
 pub contract-done :
-    {X : Type 0} {v : Checked} (c : ReconstructCall) (x : X) {told : Answered X} {masses : List ℕ} {scratch : List ℤ} → v ≡ Pass
-    → RepairTells Pass c x told masses scratch → RepairTells v c x told masses scratch
+    {X : Type 0} {v : Checked} (c : ReconstructCall) (x : X) {told : Answered X} {masses : List ℕ} {scratch : List ℤ} → v ≡ Ok tt
+    → RepairTells (Ok tt) c x told masses scratch → RepairTells v c x told masses scratch
 contract-done c x {told} {masses} {scratch} e p = subst (λ w. RepairTells w c x told masses scratch) (sym e) p
 
--- every fact of the whole tree of a call that was answered Done
-pub done-facts : {c : ReconstructCall} (r : Repair) {masses : List ℕ} {scratch : List ℤ} → ReconstructContract c (Done r) masses scratch → FieldFacts (field c.lists) c.total masses
-unfolding reconstruct_tells
+-- every fact of the whole tree of a call that was accepted
+pub done-facts : {c : ReconstructCall} (r : Repair) {masses : List ℕ} {scratch : List ℤ} → ReconstructContract c (Ok r) masses scratch → FieldFacts (field c.lists) c.total masses
 done-facts {c} r p = subst (FieldFacts (field c.lists) c.total) (sym (told-masses p)) (fits-facts c ((reconstruct-accepts c).0 (told-passed p)))
 
 -- what is told to be shared out, by the masses written: of Reconstruct's answer and of an accepted step's alike

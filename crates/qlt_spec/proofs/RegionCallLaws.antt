@@ -1,6 +1,8 @@
 -- Edits stay in their region, of the operations that repair: two calls of Reconstruct, from their contracts alone; and what Step and the call on
 -- files share with it. Assumes nothing.
+use Rattle.std.specs.Prelude.{Ok, Err}
 use mathlib.Core.Path.{◌≡◌, refl, sym, ◌∙◌, ap, ap₂, subst}
+use Rattle.qlt_spec.specs.declared.Repair.{Repair}
 use mathlib.Core.Logic.{◌↔◌}
 use mathlib.Core.Bool.{◌&&◌}
 use mathlib.Core.List.{List}
@@ -9,18 +11,15 @@ use native.Mathlib.Omega.{arith}
 use lib.Dec.{leb}
 use lib.IntN.{ℤ}
 use lib.ListN.{length}
-use Rattle.numbers.specs.declared.Checked.{Checked}
-use Rattle.numbers.specs.declared.Checked.TheVariants.{Pass, Fail}
 use Rattle.numbers.specs.Sums.{ℕ_adds}
 use Rattle.numbers.specs.Lists.{at}
-use Rattle.numbers.specs.Checks.{Answered, refused, answered, after, unless}
+use Rattle.numbers.specs.Checks.{Checked, Answered, refused, answered, after, unless}
 use Rattle.numbers.proofs.CheckLaws.{on, last, answered-refused}
-use Rattle.qlt_spec.specs.declared.Reconstructed.{Reconstructed}
 use Rattle.qlt_spec.specs.Field.{Lists, cells, field, outcome_number}
 use Rattle.qlt_spec.specs.Masses.{tree_mass, tree_masses}
 use Rattle.qlt_spec.specs.Checks.{shape_of, check_values, check_reach}
 use Rattle.qlt_spec.specs.Facts.{FieldFacts}
-use Rattle.qlt_spec.specs.Operation.{ReconstructCall, reconstruct_verdict, ReconstructFits, repair, reconstruct_tells, RepairTells, ReconstructContract}
+use Rattle.qlt_spec.specs.Operation.{ReconstructCall, reconstruct_verdict, ReconstructFits, repair, RepairTells, ReconstructContract}
 use Rattle.qlt_spec.specs.Region.{sum_below, Outside, SameTree, EditedField, PastSeven, InReach, SameMasses, AgreeOutside, SameRepair, SameTold, both_accepted, both_refused}
 use Rattle.qlt_spec.proofs.FactLaws.{list_at}
 use Rattle.qlt_spec.proofs.CheckLaws.{shape-fits, values-fit, reach-decides, reaches}
@@ -34,10 +33,10 @@ same-tree f g e p = record { cells = e; nodes = ap length p; parents = ap at p }
 -- ---- two fields past checks 1 to 7
 
 module _ {f : Lists} {k s : ℕ} (p : PastSeven f k s) where
-  pub shape-passes : shape_of k f s ≡ Pass
+  pub shape-passes : shape_of k f s ≡ Ok tt
   shape-passes = (shape-fits f k s).1 p.shape
 
-  pub values-pass : check_values f ≡ Pass
+  pub values-pass : check_values f ≡ Ok tt
   values-pass = (values-fit f).1 p.values
 
 module _ {f g : Lists} {k j s t : ℕ} {v : ℕ} (p : PastSeven f k s) (q : PastSeven g j t) (o : EditedField (field f) (field g) v) where
@@ -78,14 +77,14 @@ module _ {f g : Lists} {k j s t : ℕ} {v : ℕ} (p : PastSeven f k s) (q : Past
 
 -- ---- two calls with one verdict tell the same, if their results are the same where they pass
 pub told_same :
-    {X : Type 0} {Same : X → X → Type 0} {v w : Checked} (x y : X) {a b : Answered X} → v ≡ w → a ≡ answered v x → b ≡ answered w y → (v ≡ Pass → Same x y)
+    {X : Type 0} {Same : X → X → Type 0} {v w : Checked} (x y : X) {a b : Answered X} → v ≡ w → a ≡ answered v x → b ≡ answered w y → (v ≡ Ok tt → Same x y)
     → SameTold Same a b
 told_same {Same = Same} {v} {w} x y {a} {b} e p q h =
     subst (λ t. SameTold Same t b) (sym p) (subst (SameTold Same (answered v x)) (sym (q ∙ ap (λ u. answered u y) (sym e))) (go v h))
   where
-    go : (v : Checked) → (v ≡ Pass → Same x y) → SameTold Same (answered v x) (answered v y)
-    go Pass h = both_accepted (h refl)
-    go (Fail number place) h = both_refused
+    go : (v : Checked) → (v ≡ Ok tt → Same x y) → SameTold Same (answered v x) (answered v y)
+    go (Ok tt) h = both_accepted (h refl)
+    go (Err r) h = both_refused
 
 -- ---- Reconstruct
 
@@ -100,7 +99,7 @@ past-seven c p = sym (on (shape-passes p) (on (values-pass p) (last _ refl)))
 -- masses that a call left by a verdict that passes have every fact, if its repair fits
 pub left-facts :
     {X : Type 0} {v : Checked} {c : ReconstructCall} {x : X} {told : Answered X} {masses : List ℕ} {scratch : List ℤ}
-    → RepairTells v c x told masses scratch → v ≡ Pass → ReconstructFits c → FieldFacts (field c.lists) c.total masses
+    → RepairTells v c x told masses scratch → v ≡ Ok tt → ReconstructFits c → FieldFacts (field c.lists) c.total masses
 left-facts {c = c} k e f =
     subst (FieldFacts (field c.lists) c.total)
     (sym (k.leaves.writes ∙ ap (λ w. after w (tree_masses (field c.lists) c.total) c.masses) e))
@@ -108,8 +107,8 @@ left-facts {c = c} k e f =
 
 -- so it is refused with 8 alone, exactly if M is out of reach
 pub refused-8 :
-    (c : ReconstructCall) → Past c → (a : Reconstructed) {xs : List ℕ} {scratch : List ℤ} → ReconstructContract c a xs scratch → (number place : ℕ)
-    → (reconstruct_tells a ≡ refused number place) ↔ ((number ≡ 8) × ((place ≡ 0) × (InReach (field c.lists) c.total → ⊥)))
+    (c : ReconstructCall) → Past c → (a : Answered Repair) {xs : List ℕ} {scratch : List ℤ} → ReconstructContract c a xs scratch → (number place : ℕ)
+    → (a ≡ refused number place) ↔ ((number ≡ 8) × ((place ≡ 0) × (InReach (field c.lists) c.total → ⊥)))
 refused-8 c p a k number place =
     let d = (reach-decides c.lists.safe_lows c.lists.safe_highs c.total).fails number place in
     let low = safe-lows-sum p.shape.lengths in
@@ -130,17 +129,17 @@ module _ (c d : ReconstructCall) {v : ℕ} (p : Past c) (q : Past d) (total : c.
       ∙ sym (past-seven d q)
 
   pub reconstruct-region :
-      (a b : Reconstructed) {xs ys : List ℕ} {scratch scratch' : List ℤ}
+      (a b : Answered Repair) {xs ys : List ℕ} {scratch scratch' : List ℤ}
       → ReconstructContract c a xs scratch → ReconstructContract d b ys scratch'
-      → SameTold (λ r z. SameRepair (field c.lists) v r z xs ys) (reconstruct_tells a) (reconstruct_tells b)
+      → SameTold (λ r z. SameRepair (field c.lists) v r z xs ys) a b
   reconstruct-region a b {xs} {ys} k l =
       told_same (repair c.lists c.total) (repair d.lists c.total) verdict-same k.answers
       (l.answers ∙ ap (λ M. answered (reconstruct_verdict d) (repair d.lists M)) (sym total)) same
     where
-      fits : (c : ReconstructCall) → Past c → reconstruct_verdict c ≡ Pass → ReconstructFits c
+      fits : (c : ReconstructCall) → Past c → reconstruct_verdict c ≡ Ok tt → ReconstructFits c
       fits c p e = record { shape = p.shape; values = p.values; reach = (reaches c.lists c.total).0 (sym (past-seven c p) ∙ e) }
 
-      same : reconstruct_verdict c ≡ Pass → SameRepair (field c.lists) v (repair c.lists c.total) (repair d.lists c.total) xs ys
+      same : reconstruct_verdict c ≡ Ok tt → SameRepair (field c.lists) v (repair c.lists c.total) (repair d.lists c.total) xs ys
       same e =
           repair-same p q o (left-facts k e (fits c p e))
           (subst (λ M. FieldFacts (field d.lists) M ys) (sym total)

@@ -9,7 +9,9 @@ use Rattle.numbers.specs.Sums.{Adds, ℕ_adds, ℤ_adds, sum_to}
 use Rattle.caas_spec.specs.Split.{result}
 use Rattle.caas_spec.proofs.ExtLaws.{result-ext}
 use Rattle.qlt_spec.specs.Tree.{leads, child_of, node_sum, Valid}
-use Rattle.qlt_spec.specs.Field.{Field, Outcome, attainable, below, above, outcome, outcome_by, low_in, high_in, sum_cells}
+use Rattle.qlt_spec.specs.Field.{Field, outcome, outcome_by, low_in, high_in, sum_cells}
+use Rattle.qlt_spec.specs.declared.Outcome.{Outcome}
+use Rattle.qlt_spec.specs.declared.Outcome.TheVariants.{Attainable, Below, Above}
 use Rattle.qlt_spec.specs.Masses.{mass_between, tree_mass}
 use Rattle.qlt_spec.specs.Region.{sum_below, Outside, EditedField, AgreeOutside}
 use Rattle.qlt_spec.proofs.TreeLaws.{up-ind, child-parent, node_sum-root}
@@ -90,15 +92,15 @@ module _ {F G : Field} {v : ℕ} (ok : Valid F.up F.n F.m) (s : EditedField F G 
   -- the bounds in force
   in-lows-agree : (o : Outcome) → SumsAgree ok v ℕ_adds (low_in o F) (low_in o G)
   unfolding low_in
-  in-lows-agree attainable = lows-agree
-  in-lows-agree below = safe-lows-agree
-  in-lows-agree above = highs-agree
+  in-lows-agree Attainable = lows-agree
+  in-lows-agree Below = safe-lows-agree
+  in-lows-agree Above = highs-agree
 
   in-highs-agree : (o : Outcome) → SumsAgree ok v ℕ_adds (high_in o F) (high_in o G)
   unfolding high_in
-  in-highs-agree attainable = highs-agree
-  in-highs-agree below = lows-agree
-  in-highs-agree above = safe-highs-agree
+  in-highs-agree Attainable = highs-agree
+  in-highs-agree Below = lows-agree
+  in-highs-agree Above = safe-highs-agree
 
   -- sums over all cells are the root's
   all_same : (f g : ℕ → ℕ) → SumsAgree ok v ℕ_adds f g → sum_cells F f ≡ sum_cells G g

@@ -1,8 +1,7 @@
 -- The checks 1 to 8 of Reconstruct, which Step shares, each with its number and place. Assumes nothing.
 use Rattle.std.specs.Prelude.{Bool, ◌&&◌, List, [], ◌∷◌, ℕ, ◌*◌, leb, eqb, length}
-use Rattle.numbers.specs.declared.Checked.{Checked}
 use Rattle.numbers.specs.Lists.{at, sum}
-use Rattle.numbers.specs.Checks.{unless, first, first_from, check_count, max_total}
+use Rattle.numbers.specs.Checks.{Checked, unless, first, first_from, check_count, max_total}
 use Rattle.qlt_spec.specs.Tree.{node_ok}
 use Rattle.qlt_spec.specs.Field.{Lists, cells, nodes, scratch_per_node}
 

@@ -3,6 +3,9 @@ use Rattle.std.specs.Prelude.{◌≡◌, cond, List, ℕ, suc, ◌+◌, ◌-◌,
 use Rattle.numbers.specs.Sums.{ℕ_adds, ℤ_adds, sum_to}
 use Rattle.numbers.specs.Lists.{at, at_ℤ}
 use Rattle.caas_spec.specs.Group.{Within}
+use Rattle.qlt_spec.specs.declared.FieldLists.{FieldLists}
+use Rattle.qlt_spec.specs.declared.Outcome.{Outcome}
+use Rattle.qlt_spec.specs.declared.Outcome.TheVariants.{Attainable, Below, Above}
 
 -- the seven lists of a field
 pub record Lists : Type 0 where
@@ -17,6 +20,10 @@ pub record Lists : Type 0 where
 abbrev pub lists : (targets : List ℤ) (lows highs safe_lows safe_highs weights parents : List ℕ) → Lists
 lists targets lows highs safe_lows safe_highs weights parents =
     record { targets = targets; lows = lows; highs = highs; safe_lows = safe_lows; safe_highs = safe_highs; weights = weights; parents = parents }
+
+-- those that a field is lent by
+abbrev pub lists_of : FieldLists → Lists
+lists_of f = lists f.targets.now f.lows.now f.highs.now f.safe_lows.now f.safe_highs.now f.weights.now f.parents.now
 
 abbrev pub cells : Lists → ℕ
 cells f = length f.targets
@@ -70,32 +77,29 @@ pub record Ordered (F : Field) (c : ℕ) : Type 0 where
 
 -- ---- the bounds in force (01's term)
 
--- 01's outcome: 0 if the lows' sum ≤ M ≤ the highs' sum, 1 if M is less, 2 if it is more
-pub data Outcome : Type 0 where
-  attainable below above : Outcome
-
--- by the two sums
+-- 01's outcome, by the two sums: the lows' sum ≤ M ≤ the highs' sum, or M is less, or it is more
 abbrev pub outcome_by : (low high M : ℕ) → Outcome
-outcome_by low high M = cond (ltb M low) below (cond (ltb high M) above attainable)
+outcome_by low high M = cond (ltb M low) Below (cond (ltb high M) Above Attainable)
 
 unfoldable pub outcome : Field → ℕ → Outcome
 outcome F M = outcome_by (sum_cells F F.low) (sum_cells F F.high) M
 
+-- its number in 01, in files and in the calls from C
 unfoldable pub outcome_number : Outcome → ℕ
-outcome_number attainable = 0
-outcome_number below = 1
-outcome_number above = 2
+outcome_number Attainable = 0
+outcome_number Below = 1
+outcome_number Above = 2
 
 -- outcome 0: low to high; outcome 1: safe low to low; outcome 2: high to safe high
 unfoldable pub low_in : Outcome → Field → ℕ → ℕ
-low_in attainable F = F.low
-low_in below F = F.safe_low
-low_in above F = F.high
+low_in Attainable F = F.low
+low_in Below F = F.safe_low
+low_in Above F = F.high
 
 unfoldable pub high_in : Outcome → Field → ℕ → ℕ
-high_in attainable F = F.high
-high_in below F = F.low
-high_in above F = F.safe_high
+high_in Attainable F = F.high
+high_in Below F = F.low
+high_in Above F = F.safe_high
 
 -- ---- what masses are measured by
 

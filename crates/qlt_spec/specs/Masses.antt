@@ -6,7 +6,8 @@ use Rattle.numbers.specs.Lists.{list_to}
 use Rattle.caas_spec.specs.Group.{Group}
 use Rattle.caas_spec.specs.Split.{deficit, result}
 use Rattle.qlt_spec.specs.Tree.{child_of, node_sum, mass_at}
-use Rattle.qlt_spec.specs.Field.{Field, Outcome, outcome, low_in, high_in}
+use Rattle.qlt_spec.specs.Field.{Field, outcome, low_in, high_in}
+use Rattle.qlt_spec.specs.declared.Outcome.{Outcome}
 
 -- ---- between any bounds of the cells
 

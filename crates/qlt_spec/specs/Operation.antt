@@ -1,11 +1,8 @@
 -- The operation Reconstruct: what it is given, its verdict, its answer, and the lists it leaves. Assumes nothing.
 use Rattle.std.specs.Prelude.{◌≡◌, List, [], ◌∷◌, ◌++◌, ℕ, ◌*◌, ◌≤◌, ◌<◌, ℤ, pos, length}
-use Rattle.numbers.specs.declared.Checked.{Checked}
 use Rattle.numbers.specs.Lists.{at, list_to, written, sum}
-use Rattle.numbers.specs.Checks.{Answered, accepted, refused, answered, after, first, Rule, rule, rule_at, max_total}
+use Rattle.numbers.specs.Checks.{Checked, Answered, answered, after, first, Rule, rule, rule_at, max_total}
 use Rattle.qlt_spec.specs.declared.Repair.{Repair}
-use Rattle.qlt_spec.specs.declared.Reconstructed.{Reconstructed}
-use Rattle.qlt_spec.specs.declared.Reconstructed.TheVariants.{Done, Refused}
 use Rattle.qlt_spec.specs.Tree.{NodeRules}
 use Rattle.qlt_spec.specs.Field.{Lists, cells, nodes, scratch_per_node, field, Ordered, outcome, outcome_number, change_of}
 use Rattle.qlt_spec.specs.Masses.{tree_mass, tree_masses, tree_shared}
@@ -101,15 +98,6 @@ pub record ReconstructFits (c : ReconstructCall) : Type 0 where
 unfoldable pub repair : Lists → ℕ → Repair
 repair f M = record { outcome = outcome_number (outcome (field f) M); total = M; change = change_of (field f) (tree_mass (field f) M); shared = tree_shared (field f) M }
 
--- what an answer tells, and the answer that tells it
-unfoldable pub reconstruct_tells : Reconstructed → Answered Repair
-reconstruct_tells (Done r) = accepted r
-reconstruct_tells (Refused number place) = refused number place
-
-abbrev pub reconstruct_answer : Answered Repair → Reconstructed
-reconstruct_answer (accepted r) = Done r
-reconstruct_answer (refused number place) = Refused number place
-
 -- the first k numbers are 0, the others as they were
 unfoldable pub cleared : ℕ → List ℤ → List ℤ
 cleared k s = written s 0 (list_to k (λ i. pos 0))
@@ -136,5 +124,5 @@ abbrev pub RepairContract : Checked → ReconstructCall → Answered Repair → 
 RepairContract v c told masses scratch = RepairTells v c (repair c.lists c.total) told masses scratch
 
 -- the whole contract of the operation
-abbrev pub ReconstructContract : ReconstructCall → Reconstructed → List ℕ → List ℤ → Type 0
-ReconstructContract c answer masses scratch = RepairContract (reconstruct_verdict c) c (reconstruct_tells answer) masses scratch
+abbrev pub ReconstructContract : ReconstructCall → Answered Repair → List ℕ → List ℤ → Type 0
+ReconstructContract c answer masses scratch = RepairContract (reconstruct_verdict c) c answer masses scratch

@@ -1,9 +1,9 @@
 -- Edits stay in their region (ticket 13 of 02): two fields on one tree that differ only in cells below a node v, and what is then the same in
 -- both. Assumes nothing.
-use Rattle.std.specs.Prelude.{◌≡◌, ◌↔◌, false, List, ℕ, ◌≤◌, ◌<◌}
+use Rattle.std.specs.Prelude.{Ok, ◌≡◌, ◌↔◌, false, List, ℕ, ◌≤◌, ◌<◌}
 use Rattle.numbers.specs.Sums.{Adds, ℕ_adds, ℤ_adds}
 use Rattle.numbers.specs.Lists.{at}
-use Rattle.numbers.specs.Checks.{Answered, accepted, refused}
+use Rattle.numbers.specs.Checks.{Answered, refused}
 use Rattle.qlt_spec.specs.declared.Repair.{Repair}
 use Rattle.qlt_spec.specs.Tree.{leads, node_sum}
 use Rattle.qlt_spec.specs.Field as fields
@@ -86,5 +86,5 @@ pub record SameRepair (F : Field) (v : ℕ) (r q : Repair) (xs ys : List ℕ) : 
 
 -- both are accepted, with results that are the same so far, or both are refused with one number and place
 pub data SameTold {X : Type 0} (Same : X → X → Type 0) : Answered X → Answered X → Type 0 where
-  both_accepted : {x y : X} → Same x y → SameTold Same (accepted x) (accepted y)
+  both_accepted : {x y : X} → Same x y → SameTold Same (Ok x) (Ok y)
   both_refused : {number place : ℕ} → SameTold Same (refused number place) (refused number place)

@@ -5,14 +5,14 @@
 
 ghost use Rattle.query_spec.specs.Query.{QueryContract};
 
-use text::Reported;
+use numbers::Refusal;
 use text::pieces::put_front;
 
 mod work;
 
 // Writes the line for a cell of a field file to the front of `out`: the outcome and the parts of the cell's correction, or the refusal,
 // 3 for a cell number of n or more among them. `out` needs 128 bytes; a shorter one is refused with 3 and left as it was.
-pub fn query(file: &[u8], cell: usize, out: &mut [u8]) -> Reported
+pub fn query(file: &[u8], cell: usize, out: &mut [u8]) -> Result<usize, Refusal>
     ensures { QueryContract file.now cell out.old result out.new }
 {
     let mut text = [0u8; 128];

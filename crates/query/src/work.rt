@@ -2,7 +2,7 @@
 // the verdict the parts or the refusal.
 ghost use Rattle.std.specs.Prelude.{◌≡◌, ◌≤◌, ◌<◌, length};
 ghost use Rattle.numbers.specs.Checks.{both};
-ghost use Rattle.qlt_spec.specs.Field.{lists, max_scratch};
+ghost use Rattle.qlt_spec.specs.Field.{lists_of, max_scratch};
 ghost use Rattle.qlt_spec.specs.Operation.{reconstruct_call, reconstruct_verdict};
 ghost use Rattle.files_spec.specs.FieldFile.{fronts};
 ghost use Rattle.repair_file.specs.RepairFile.{front_call};
@@ -12,16 +12,17 @@ ghost use Rattle.query_spec.specs.Query.{check_cell, line_by, query_text};
 use cell_parts::parts::cell_parts;
 use field_checks::total::outcome_of;
 use field_file::read_field;
-use files_spec::FieldRead;
-use numbers::Checked;
+use files_spec::Sizes;
+use numbers::Refusal;
 use numbers::checks::unless;
-use qlt_spec::MAX_SCRATCH;
+use qlt_spec::{FieldLists, MAX_SCRATCH};
 use query_lines::lines::{put_parts, put_refused};
 use reconstruct::verdict::verdict;
 use text::pieces::put_refusal;
 
 // 3: a cell number of n or more.
-fn check_cell(cell: usize, n: usize) -> Checked
+#[tactic(auto, unfolding(query_spec::specs::Query::check_cell))]
+fn check_cell(cell: usize, n: usize) -> Result<(), Refusal>
     ensures { result ≡ check_cell cell n }
 {
     unless(cell < n, 3, 0)
@@ -29,95 +30,60 @@ fn check_cell(cell: usize, n: usize) -> Checked
 
 // The line for the lists of a field with such a cell.
 fn put_line(
-    targets: &[i32],
-    lows: &[u32],
-    highs: &[u32],
-    safe_lows: &[u32],
-    safe_highs: &[u32],
-    weights: &[u32],
-    parents: &[u32],
+    field: &FieldLists,
     total: u32,
     cell: usize,
     masses: &[u32],
     scratch: &mut [i64],
     out: &mut [u8],
 ) -> usize
-    requires { (128 ≤ length out.old) × (cell < length targets.now) × (length safe_lows.now ≤ 1024) × (length safe_highs.now ≤ 1024) }
+    requires { (128 ≤ length out.old) × (cell < length field.now.targets.now) × (length field.now.safe_lows.now ≤ 1024) ×
+        (length field.now.safe_highs.now ≤ 1024) }
     ensures { Put out.old out.new 0 result
-        (line_by
-        (reconstruct_verdict
-        (reconstruct_call
-        (lists targets.now lows.now highs.now safe_lows.now safe_highs.now
-        weights.now parents.now)
-        total masses.now scratch.old))
-        (lists targets.now lows.now highs.now safe_lows.now safe_highs.now
-        weights.now parents.now)
-        total cell) × (result ≤ 128) }
+        (line_by (reconstruct_verdict (reconstruct_call (lists_of field.now) total masses.now scratch.old)) (lists_of field.now) total cell) ×
+        (result ≤ 128) }
 {
-    let verdict = verdict(
-        targets, lows, highs, safe_lows, safe_highs, weights, parents, total, masses, scratch,
-    );
-    if let Checked::Fail { number, place } = verdict {
-        return put_refused(out, number, place, safe_lows, safe_highs, total);
+    if let Err(refusal) = verdict(field, total, masses, scratch) {
+        return put_refused(out, refusal, field.safe_lows, field.safe_highs, total);
     }
-    let outcome = outcome_of(lows, highs, total);
-    let parts = cell_parts(
-        outcome, targets, lows, highs, safe_lows, safe_highs, weights, parents, total, cell,
-        scratch,
-    );
-    put_parts(out, outcome, parts)
+    let outcome = outcome_of(field.lows, field.highs, total);
+    let parts = cell_parts(outcome, field, total, cell, scratch);
+    put_parts(out, outcome.number(), parts)
 }
 
-// The line for the first `cells` and `nodes` entries.
+// The line for the fronts of the lists, as long as the sizes say.
 fn put_cell(
-    cells: usize,
-    nodes: usize,
-    total: u32,
+    sizes: Sizes,
     cell: usize,
-    targets: &[i32],
-    lows: &[u32],
-    highs: &[u32],
-    safe_lows: &[u32],
-    safe_highs: &[u32],
-    weights: &[u32],
-    parents: &[u32],
+    field: &FieldLists,
     masses: &[u32],
     scratch: &mut [i64],
     out: &mut [u8],
 ) -> usize
-    requires cells_bound { (cells ≤ 512) × (nodes ≤ 1024) × (128 ≤ length out.old) × (length targets.now ≡ 512) × (length lows.now ≡ 512) ×
-        (length highs.now ≡ 512) × (length safe_lows.now ≡ 512) }
-    requires safe_highs_len { (length safe_highs.now ≡ 512) × (length weights.now ≡ 512) × (length parents.now ≡ 1024) × (length masses.now ≡ 512) }
+    requires cells_bound { (sizes.cells ≤ 512) × (sizes.nodes ≤ 1024) × (128 ≤ length out.old) × (length field.now.targets.now ≡ 512) ×
+        (length field.now.lows.now ≡ 512) × (length field.now.highs.now ≡ 512) × (length field.now.safe_lows.now ≡ 512) }
+    requires safe_highs_len { (length field.now.safe_highs.now ≡ 512) × (length field.now.weights.now ≡ 512) × (length field.now.parents.now ≡ 1024) ×
+        (length masses.now ≡ 512) }
     ensures { Put out.old out.new 0 result
         (line_by
-        (both (check_cell cell cells)
-        (reconstruct_verdict
-        (front_call cells nodes total
-        (lists targets.now lows.now highs.now safe_lows.now safe_highs.now
-        weights.now parents.now)
-        masses.now scratch.old)))
-        (fronts cells nodes
-        (lists targets.now lows.now highs.now safe_lows.now safe_highs.now
-        weights.now parents.now))
-        total cell) × (result ≤ 128) }
+        (both (check_cell cell sizes.cells)
+        (reconstruct_verdict (front_call sizes.cells sizes.nodes sizes.total (lists_of field.now) masses.now scratch.old)))
+        (fronts sizes.cells sizes.nodes (lists_of field.now)) sizes.total cell) × (result ≤ 128) }
 {
-    if let Checked::Fail { number, place } = check_cell(cell, cells) {
-        return put_refusal(out, number, place, b'\n');
+    let cells = sizes.cells;
+    if let Err(refusal) = check_cell(cell, cells) {
+        return put_refusal(out, refusal, b'\n');
     }
-    put_line(
-        &targets[0..cells],
-        &lows[0..cells],
-        &highs[0..cells],
-        &safe_lows[0..cells],
-        &safe_highs[0..cells],
-        &weights[0..cells],
-        &parents[0..nodes],
-        total,
-        cell,
-        &masses[0..cells],
-        scratch,
-        out,
-    )
+    let front = FieldLists {
+        targets: &field.targets[..cells],
+        lows: &field.lows[..cells],
+        highs: &field.highs[..cells],
+        safe_lows: &field.safe_lows[..cells],
+        safe_highs: &field.safe_highs[..cells],
+        weights: &field.weights[..cells],
+        parents: &field.parents[..sizes.nodes],
+    };
+    put_line(&front, sizes.total, cell, &masses[..cells], scratch, out)
 }
 
 // The line for a file, over lent lists.
@@ -145,15 +111,19 @@ fn put_query_with(
         file, targets, lows, highs, safe_lows, safe_highs, weights, parents,
     );
     match read {
-        FieldRead::Refused { number, place } => put_refusal(out, number, place, b'\n'),
-        FieldRead::Read {
-            cells,
-            nodes,
-            total,
-        } => put_cell(
-            cells, nodes, total, cell, targets, lows, highs, safe_lows, safe_highs, weights,
-            parents, masses, scratch, out,
-        ),
+        Err(refusal) => put_refusal(out, refusal, b'\n'),
+        Ok(sizes) => {
+            let field = FieldLists {
+                targets,
+                lows,
+                highs,
+                safe_lows,
+                safe_highs,
+                weights,
+                parents,
+            };
+            put_cell(sizes, cell, &field, masses, scratch, out)
+        }
     }
 }
 

@@ -1,10 +1,9 @@
 // The lines of a query, each from the start of a lent list of bytes. No line has more than 128.
 ghost use Rattle.std.specs.Prelude.{◌≡◌, ◌≤◌, ◌<◌, length};
-ghost use Rattle.numbers.specs.Signed.{gap};
 ghost use Rattle.text.specs.Text.{Put};
 ghost use Rattle.query_spec.specs.Query.{is_below, distance, parts_line, beyond_line, refused_line};
 
-use numbers::arith::smaller;
+use numbers::Refusal;
 use numbers::lists::sum_of;
 use query_spec::Parts;
 use text::pieces::{put_named, put_named_signed, put_refusal};
@@ -14,7 +13,7 @@ pub fn put_parts(out: &mut [u8], outcome: u32, parts: Parts) -> usize
     requires { 128 ≤ length out.old }
     ensures { Put out.old out.new 0 result (parts_line outcome parts) × (result ≤ 128) }
 {
-    let a = put_named(out, 0, b"outcome ", outcome as u64, b' ');
+    let a = put_named(out, 0, b"outcome ", u64::from(outcome), b' ');
     let b = put_named_signed(out, a, b"clipping ", parts.clipping, b' ');
     let c = put_named_signed(out, b, b"first ", parts.first, b' ');
     put_named_signed(out, c, b"second ", parts.second, b'\n')
@@ -23,35 +22,30 @@ pub fn put_parts(out: &mut [u8], outcome: u32, parts: Parts) -> usize
 // On which side of the sums of the safety bounds a total lies, if on any, and how far from the nearest.
 #[derive(Clone, Copy)]
 struct Side {
-    pub below: bool,
-    pub distance: u64,
+    below: bool,
+    distance: u64,
 }
 
-fn gap_of(a: u64, b: u64) -> u64
-    ensures { result ≡ gap a b }
-{
-    if a < b { b - a } else { a - b }
-}
-
+#[tactic(auto, unfolding(query_spec::specs::Query::is_below, query_spec::specs::Query::distance))]
 fn side_of(safe_lows: &[u32], safe_highs: &[u32], total: u32) -> Side
     requires { (length safe_lows.now ≤ 1024) × (length safe_highs.now ≤ 1024) }
     ensures below_value { result.below ≡ is_below safe_lows.now total }
     ensures distance_value { result.distance ≡ distance safe_lows.now safe_highs.now total }
 {
-    let m = total as u64;
+    let m = u64::from(total);
     let least = sum_of(safe_lows);
     let most = sum_of(safe_highs);
-    let distance = smaller(gap_of(m, least), gap_of(m, most));
+    let distance = m.abs_diff(least).min(m.abs_diff(most));
     let below = m < least;
     Side { below, distance }
 }
 
 // A refusal with the side and the distance after it.
-fn put_beyond(out: &mut [u8], number: u32, place: u32, side: Side) -> usize
+fn put_beyond(out: &mut [u8], refusal: Refusal, side: Side) -> usize
     requires { 128 ≤ length out.old }
-    ensures { Put out.old out.new 0 result (beyond_line number place side.below side.distance) × (result ≤ 128) }
+    ensures { Put out.old out.new 0 result (beyond_line refusal.number refusal.place side.below side.distance) × (result ≤ 128) }
 {
-    let a = put_refusal(out, number, place, b' ');
+    let a = put_refusal(out, refusal, b' ');
     if side.below {
         return put_named(out, a, b"below ", side.distance, b'\n');
     }
@@ -61,19 +55,18 @@ fn put_beyond(out: &mut [u8], number: u32, place: u32, side: Side) -> usize
 // A refusal; 8 has the side and the distance after it.
 pub fn put_refused(
     out: &mut [u8],
-    number: u32,
-    place: u32,
+    refusal: Refusal,
     safe_lows: &[u32],
     safe_highs: &[u32],
     total: u32,
 ) -> usize
     requires { (128 ≤ length out.old) × (length safe_lows.now ≤ 1024) × (length safe_highs.now ≤ 1024) }
     ensures { Put out.old out.new 0 result
-        (refused_line number place safe_lows.now safe_highs.now total) × (result ≤ 128) }
+        (refused_line refusal.number refusal.place safe_lows.now safe_highs.now total) × (result ≤ 128) }
 {
-    if number == 8 {
+    if refusal.number == 8 {
         let side = side_of(safe_lows, safe_highs, total);
-        return put_beyond(out, number, place, side);
+        return put_beyond(out, refusal, side);
     }
-    put_refusal(out, number, place, b'\n')
+    put_refusal(out, refusal, b'\n')
 }

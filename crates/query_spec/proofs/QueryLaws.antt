@@ -1,5 +1,6 @@
 -- What the query's verdict means, that the parts which it tells add up to the correction that Reconstruct makes, what refusal 8 says, and
 -- the line by the verdict. Assumes nothing.
+use Rattle.std.specs.Prelude.{Ok}
 use mathlib.Core.Path.{◌≡◌, refl, sym, ◌∙◌, ap, ap₂, subst}
 use mathlib.Core.Logic.{◌≢◌, ◌↔◌}
 use mathlib.Core.Bool.{true, false}
@@ -10,10 +11,9 @@ use native.Mathlib.Decide.{dec_lt}
 use lib.IntN.{pos, ◌-ℤ◌}
 use lib.ListN.{length}
 use borrow.Author.Tests.{lt-ltb, le-ltb, ne_eqb}
-use Rattle.numbers.specs.declared.Checked.TheVariants.{Pass, Fail}
 use Rattle.numbers.specs.Sums.{ℕ_adds, sum_to}
 use Rattle.numbers.specs.Lists.{at, at_ℤ, sum}
-use Rattle.numbers.specs.Checks.{both, Decides, DecidesAll, Broken, numbers_of, OneOf, RefuseWith, rule}
+use Rattle.numbers.specs.Checks.{refused, both, Decides, DecidesAll, Broken, numbers_of, OneOf, RefuseWith, rule}
 use Rattle.numbers.proofs.TestLaws.{lt-means}
 use Rattle.numbers.proofs.SumLaws.{sum_to-le}
 use Rattle.numbers.proofs.CheckLaws.{on, last, both_first, both-second, both-pass, decides-unless, decides-then, decides-append}
@@ -43,14 +43,14 @@ module _ (file : List ℕ) (cell : ℕ) where
   pub query-decides : DecidesAll (query_verdict file cell) (query_rules file cell)
   unfolding query_verdict
   query-decides =
-      decides-append (read_verdict file largest) (both (check_cell cell (file_cells file)) (both (reconstruct_verdict (file_call file)) Pass)) (read_rules file largest) _ (read-decides file largest)
-      (decides-then (check_cell cell (file_cells file)) (both (reconstruct_verdict (file_call file)) Pass) _ (reconstruct_rules (file_call file)) (cell-decides cell (file_cells file))
+      decides-append (read_verdict file largest) (both (check_cell cell (file_cells file)) (both (reconstruct_verdict (file_call file)) (Ok tt))) (read_rules file largest) _ (read-decides file largest)
+      (decides-then (check_cell cell (file_cells file)) (both (reconstruct_verdict (file_call file)) (Ok tt)) _ (reconstruct_rules (file_call file)) (cell-decides cell (file_cells file))
       (subst (λ v. DecidesAll v (reconstruct_rules (file_call file))) (sym (both-pass (reconstruct_verdict (file_call file)))) (reconstruct-decides (file_call file))))
 
-  pub query-refuses : (number place : ℕ) → (query_verdict file cell ≡ Fail number place) ↔ Broken (query_rules file cell) number place
+  pub query-refuses : (number place : ℕ) → (query_verdict file cell ≡ refused number place) ↔ Broken (query_rules file cell) number place
   query-refuses = query-decides.fails
 
-  pub query-accepts : (query_verdict file cell ≡ Pass) ↔ QueryFits file cell
+  pub query-accepts : (query_verdict file cell ≡ Ok tt) ↔ QueryFits file cell
   unfolding query_verdict
   query-accepts = (
     λ e.
@@ -58,7 +58,7 @@ module _ (file : List ℕ) (cell : ℕ) where
         record {
           read = (read-accepts file largest).0 (both_first (read_verdict file largest) _ e);
           inside = (cell-decides cell (file_cells file)).passes.0 (both_first (check_cell cell (file_cells file)) _ b);
-          repair = (reconstruct-accepts (file_call file)).0 (both_first (reconstruct_verdict (file_call file)) Pass (both-second (check_cell cell (file_cells file)) _ b));
+          repair = (reconstruct-accepts (file_call file)).0 (both_first (reconstruct_verdict (file_call file)) (Ok tt) (both-second (check_cell cell (file_cells file)) _ b));
         },
     λ f.
         sym (on ((read-accepts file largest).1 f.read)
@@ -74,7 +74,7 @@ module _ (file : List ℕ) (cell : ℕ) where
       (refuse-with (rule 3 (cell < file_cells file) ∷ reconstruct_rules (file_call file)) (3 ∷ 1 ∷ 2 ∷ 3 ∷ 4 ∷ 5 ∷ 6 ∷ 7 ∷ 8 ∷ []) refl refl) refl refl
 
   -- accepted exactly if the file is repaired and has such a cell
-  pub query-repaired : (query_verdict file cell ≡ Pass) ↔ ((file_verdict file ≡ Pass) × (cell < file_cells file))
+  pub query-repaired : (query_verdict file cell ≡ Ok tt) ↔ ((file_verdict file ≡ Ok tt) × (cell < file_cells file))
   unfolding file_verdict
   query-repaired = (
     λ e.
@@ -85,7 +85,7 @@ module _ (file : List ℕ) (cell : ℕ) where
         (record {
           read = (read-accepts file largest).0 (both_first (read_verdict file largest) _ h.0);
           inside = h.1;
-          repair = (reconstruct-accepts (file_call file)).0 (both_first (reconstruct_verdict (file_call file)) Pass (both-second (read_verdict file largest) _ h.0));
+          repair = (reconstruct-accepts (file_call file)).0 (both_first (reconstruct_verdict (file_call file)) (Ok tt) (both-second (read_verdict file largest) _ h.0));
         }),
   )
 
@@ -96,7 +96,7 @@ module _ (file : List ℕ) (cell : ℕ) where
 
   -- the parts add up to the correction that the masses make which Reconstruct gives for the file
   pub query-total :
-      query_verdict file cell ≡ Pass
+      query_verdict file cell ≡ Ok tt
       → parts_sum (cell_parts (field (file_lists file)) (file_total file) cell) ≡ pos (at (file_masses file) cell) -ℤ at_ℤ (file_lists file).targets cell
   unfolding file_masses
   query-total e =
@@ -116,7 +116,7 @@ module _ (file : List ℕ) (cell : ℕ) where
 none-of-reading : (file : List ℕ) → OneOf (numbers_of (read_rules file largest)) 8 → ⊥
 none-of-reading file o = no_number (14 ∷ 15 ∷ 16 ∷ 1 ∷ 2 ∷ 3 ∷ []) 8 refl ((read-numbers file largest 8).0 o)
 
-pub read-other : (file : List ℕ) {number place : ℕ} → read_verdict file largest ≡ Fail number place → number ≢ 8
+pub read-other : (file : List ℕ) {number place : ℕ} → read_verdict file largest ≡ refused number place → number ≢ 8
 read-other file e d = none-of-reading file (subst (OneOf (numbers_of (read_rules file largest))) d (fails-number (read-decides file largest) e))
 
 module _ (f : Lists) (M : ℕ) where
@@ -152,7 +152,7 @@ module _ (file : List ℕ) (cell : ℕ) where
   M = file_total file
 
   -- a query refused with 8 has passed every other check, and M lies beyond the sums
-  pub query-eight : (place : ℕ) → query_verdict file cell ≡ Fail 8 place → (place ≡ 0) × Beyond f.safe_lows f.safe_highs M
+  pub query-eight : (place : ℕ) → query_verdict file cell ≡ refused 8 place → (place ≡ 0) × Beyond f.safe_lows f.safe_highs M
   unfolding shape_rules value_rules Broken
   query-eight place e =
       let c = file_call file in
@@ -167,11 +167,11 @@ module _ (file : List ℕ) (cell : ℕ) where
 
   -- ---- the line, by the verdict
 
-  pub text-parts : query_verdict file cell ≡ Pass → query_text file cell ≡ parts_line (outcome_number (outcome (field f) M)) (cell_parts (field f) M cell)
+  pub text-parts : query_verdict file cell ≡ Ok tt → query_text file cell ≡ parts_line (outcome_number (outcome (field f) M)) (cell_parts (field f) M cell)
   unfolding query_text
   text-parts e = ap (λ v. line_by v f M cell) e
 
-  pub text-refused : (number place : ℕ) → number ≢ 8 → query_verdict file cell ≡ Fail number place → query_text file cell ≡ refusal_line number place
+  pub text-refused : (number place : ℕ) → number ≢ 8 → query_verdict file cell ≡ refused number place → query_text file cell ≡ refusal_line number place
   unfolding query_text
   text-refused number place h e = ap (λ v. line_by v f M cell) e ∙ refused-other number place f.safe_lows f.safe_highs M h
 
@@ -180,7 +180,7 @@ module _ (file : List ℕ) (cell : ℕ) where
     text-below : M < sum f.safe_lows → M < sum f.safe_highs → query_text file cell ≡ beyond_line 8 0 true (sum f.safe_lows - M) → EightText
     text-above : sum f.safe_highs < M → sum f.safe_lows < M → query_text file cell ≡ beyond_line 8 0 false (M - sum f.safe_highs) → EightText
 
-  pub text-eight : (place : ℕ) → query_verdict file cell ≡ Fail 8 place → EightText
+  pub text-eight : (place : ℕ) → query_verdict file cell ≡ refused 8 place → EightText
   unfolding query_text refused_line
   text-eight place e = go (query-eight place e).1
     where

@@ -1,15 +1,12 @@
 -- The operation Query (02, ticket 6): from a field file's bytes and a cell's number to the line that the tool prints. Assumes nothing.
-use Rattle.std.specs.Prelude.{◌≡◌, Bool, true, false, cond, List, [], ◌∷◌, ◌++◌, ℕ, ◌-◌, ◌<◌, min, ltb, eqb}
-use Rattle.numbers.specs.declared.Checked.{Checked}
-use Rattle.numbers.specs.declared.Checked.TheVariants.{Pass, Fail}
+use Rattle.std.specs.Prelude.{Ok, Err, ◌≡◌, Bool, true, false, cond, List, [], ◌∷◌, ◌++◌, ℕ, ◌-◌, ◌<◌, min, ltb, eqb}
 use Rattle.numbers.specs.Lists.{sum}
 use Rattle.numbers.specs.Signed.{gap}
-use Rattle.numbers.specs.Checks.{unless, first, Rule, rule}
+use Rattle.numbers.specs.Checks.{Checked, Answered, unless, first, Rule, rule}
 use Rattle.qlt_spec.specs.Field.{Lists, field, outcome, outcome_number}
 use Rattle.qlt_spec.specs.Operation.{reconstruct_verdict, reconstruct_rules, ReconstructFits}
 use Rattle.files_spec.specs.ReadField.{file_cells, file_total, file_lists, read_verdict, read_rules, ReadFits}
 use Rattle.repair_file.specs.RepairFile.{largest, file_call}
-use Rattle.text.specs.declared.Reported.{Reported}
 use Rattle.text.specs.Ascii.{ascii}
 use Rattle.text.specs.Text.{named, named_signed, space, newline, refusal_text, refusal_line}
 use Rattle.text.specs.Reports.{Reports}
@@ -75,12 +72,12 @@ refused_line refusal place safe_lows safe_highs M =
 
 -- of a field and its total, by the verdict
 abbrev pub line_by : Checked → Lists → ℕ → ℕ → List ℕ
-line_by Pass f M cell = parts_line (outcome_number (outcome (field f) M)) (cell_parts (field f) M cell)
-line_by (Fail refusal place) f M cell = refused_line refusal place f.safe_lows f.safe_highs M
+line_by (Ok tt) f M cell = parts_line (outcome_number (outcome (field f) M)) (cell_parts (field f) M cell)
+line_by (Err r) f M cell = refused_line r.number r.place f.safe_lows f.safe_highs M
 
 unfoldable pub query_text : List ℕ → ℕ → List ℕ
 query_text file cell = line_by (query_verdict file cell) (file_lists file) (file_total file) cell
 
 -- the whole contract of the operation: the line at the front of a list of 128 bytes or more, which every line fits into
-abbrev pub QueryContract : List ℕ → ℕ → List ℕ → Reported → List ℕ → Type 0
+abbrev pub QueryContract : List ℕ → ℕ → List ℕ → Answered ℕ → List ℕ → Type 0
 QueryContract file cell out answer out' = Reports (query_text file cell) 128 out answer out'

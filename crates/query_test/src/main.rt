@@ -8,27 +8,23 @@
 // - for 2, an argument: a number of bytes, one byte that is passed over, and then the argument's bytes as they are, fewer if the input
 //   ends before. `argument` and the number are printed.
 // Any other kind is a case by itself. The cases end with the input, of which at most 65,536 bytes are read.
-// Relies on `query` and `arguments`, which it tests, `text`, `test_support`, `numbers`, and the kit's `io`.
+// Relies on `query` and `arguments`, which it tests, `text`, `test_support`, and the kit's `io`.
 #![tactic(auto)]
 
 ghost use Rattle.std.specs.Prelude.{◌≤◌, length};
 
-use numbers::arith::{index, least, smaller};
 use test_support::files::{load, open_field};
-use test_support::input::{STANDARD_INPUT, later, read_unsigned, skip};
-use test_support::output::{
-    STANDARD_OUTPUT, end_line, print_named, show_no_kind, show_refusal, wide,
-};
-use text::Reported;
+use test_support::input::{STANDARD_INPUT, read_unsigned, skip};
+use test_support::output::{STANDARD_OUTPUT, end_line, print_named, show_no_kind, show_refusal};
 
 // Queries a cell in a buffer, and prints the text.
 fn print_query(file: &[u8], cell: usize, out: &mut [u8]) {
     match query::query(file, cell, out) {
-        Reported::Text(k) => {
+        Ok(k) => {
             io::write_all(STANDARD_OUTPUT, &out[..k]);
         }
-        Reported::Refused { number, place } => {
-            show_refusal(number, place);
+        Err(refusal) => {
+            show_refusal(refusal);
         }
     }
 }
@@ -37,7 +33,7 @@ fn print_query(file: &[u8], cell: usize, out: &mut [u8]) {
 fn print_within(file: &[u8], cell: usize, out: &mut [u8], room: usize)
     requires { room ≤ length out.old }
 {
-    print_query(file, cell, &mut out[0..room]);
+    print_query(file, cell, &mut out[..room]);
 }
 
 // Runs Query on the case whose numbers start at `at`. Returns the position behind them.
@@ -53,9 +49,9 @@ fn run_query(rt: &HostRuntime, text: &[u8], at: usize) -> usize
     let mut out = [9u8; 256];
     print_within(
         &file[..n],
-        index(cell.value),
+        cell.value as usize,
         &mut out,
-        index(smaller(room.value, 256)),
+        room.value.min(256) as usize,
     );
     room.next
 }
@@ -66,9 +62,12 @@ fn run_argument(text: &[u8], at: usize) -> usize
     ensures { result ≤ length text.now }
 {
     let count = read_unsigned(text, at);
-    let from = least(count.next + 1, text.len());
-    let end = from + least(index(count.value), text.len() - from);
-    print_named(b"argument", wide(arguments::number_of(&text[from..end])));
+    let from = (count.next + 1).min(text.len());
+    let end = from + (count.value as usize).min(text.len() - from);
+    print_named(
+        b"argument",
+        u64::from(arguments::number_of(&text[from..end])),
+    );
     end_line();
     end
 }
@@ -78,21 +77,22 @@ fn run_case(rt: &HostRuntime, text: &[u8], at: usize) -> usize
     requires { at ≤ length text.now }
 {
     let kind = read_unsigned(text, at);
-    if kind.value == 1 {
-        return skip(text, run_query(rt, text, kind.next));
-    }
-    if kind.value == 2 {
-        return skip(text, run_argument(text, kind.next));
-    }
-    show_no_kind();
-    skip(text, kind.next)
+    let next = match kind.value {
+        1 => run_query(rt, text, kind.next),
+        2 => run_argument(text, kind.next),
+        _ => {
+            show_no_kind();
+            kind.next
+        }
+    };
+    skip(text, next)
 }
 
 // Runs all cases. Each takes at least a byte, so that the loop ends whatever the bytes are.
 fn run_all(rt: &HostRuntime, text: &[u8]) {
     let mut at = skip(text, 0);
     while at < text.len() {
-        at = later(at + 1, run_case(rt, text, at));
+        at = run_case(rt, text, at).max(at + 1);
     }
 }
 

@@ -1,2 +1,2 @@
--- What an accepted call leaves, by the bounds in force; the laws are in proofs/.
+-- The bounds in force; the laws are in proofs/.
 pub mod Rebuild

@@ -9,99 +9,83 @@
 // A line has `done` with outcome, total, change and the sum shared out, or `refused` with number and place; then the masses as the call
 // left them, up to 16 of them, or of more their sum and a check number; then `scratch`, how many of its first 4 × m numbers are 0, how
 // many of the later ones are still 5, and how many of the first. The cases end with the input, of which at most 65,536 bytes are read.
-// Relies on `reconstruct`, which it tests, `qlt_spec` for the answer, `test_support`, `numbers`, and the kit's `io`.
+// Relies on `reconstruct`, which it tests, `qlt_spec` and `numbers` for the answer, `test_support`, and the kit's `io`.
 #![tactic(auto)]
 
-ghost use Rattle.std.specs.Prelude.{◌≤◌, length};
-ghost use Rattle.reconstruct_test.specs.Cases.{InOrder};
-
-use input::Case;
-use qlt_spec::{Reconstructed, SCRATCH_PER_NODE};
-use test_support::input::{STANDARD_INPUT, later, skip};
-use test_support::runs::fill_targets;
+use input::read_case;
+use output::{Answer, count};
+use qlt_spec::{FieldLists, SCRATCH_PER_NODE};
+use std::fmt;
+use std::fmt::Write;
+use test_support::input::STANDARD_INPUT;
+use test_support::output::{Masses, Output};
+use test_support::reader::{Reader, target, word};
 
 mod input;
 mod output;
 
-// Calls Reconstruct on the lists of a case, of which all but the targets stand in `values` one behind the other.
-fn call(
-    case: Case,
-    targets: &[i32],
-    values: &[u32],
-    masses: &mut [u32],
-    scratch: &mut [i64],
-) -> Reconstructed
-    requires { InOrder case (length values.now) }
-{
-    let low = case.lows;
-    let high = case.highs;
-    let safe_low = case.safe_lows;
-    let safe_high = case.safe_highs;
-    let weight = case.weights;
-    let parent = case.parents;
-    reconstruct::reconstruct(
-        targets,
-        &values[0..low],
-        &values[low..high],
-        &values[high..safe_low],
-        &values[safe_low..safe_high],
-        &values[safe_high..weight],
-        &values[weight..parent],
+// Runs the case that stands next, and prints its line.
+fn run_case(reader: &mut Reader) -> fmt::Result {
+    let case = read_case(reader);
+    let mut targets = [0i32; 600];
+    let mut lows = [0u32; 600];
+    let mut highs = [0u32; 600];
+    let mut safe_lows = [0u32; 600];
+    let mut safe_highs = [0u32; 600];
+    let mut weights = [0u32; 600];
+    let mut parents = [0u32; 1100];
+    reader.fill_runs(&mut targets[..case.targets], target);
+    reader.fill_runs(&mut lows[..case.lows], word);
+    reader.fill_runs(&mut highs[..case.highs], word);
+    reader.fill_runs(&mut safe_lows[..case.safe_lows], word);
+    reader.fill_runs(&mut safe_highs[..case.safe_highs], word);
+    reader.fill_runs(&mut weights[..case.weights], word);
+    reader.fill_runs(&mut parents[..case.parents], word);
+    reader.skip();
+    let field = FieldLists {
+        targets: &targets[..case.targets],
+        lows: &lows[..case.lows],
+        highs: &highs[..case.highs],
+        safe_lows: &safe_lows[..case.safe_lows],
+        safe_highs: &safe_highs[..case.safe_highs],
+        weights: &weights[..case.weights],
+        parents: &parents[..case.parents],
+    };
+    let mut masses = [7u32; 600];
+    let mut scratch = [5i64; 6600];
+    let answer = reconstruct::reconstruct(
+        &field,
         case.total,
-        masses,
-        scratch,
+        &mut masses[..case.masses],
+        &mut scratch[..case.scratch],
+    );
+    let end = (SCRATCH_PER_NODE * case.parents).min(case.scratch);
+    writeln!(
+        Output,
+        "{}{} scratch {} {} {}",
+        Answer(answer),
+        Masses(&masses[..case.masses]),
+        count(&scratch[..end], 0),
+        count(&scratch[end..case.scratch], 5),
+        count(&scratch[..end], 5)
     )
 }
 
-// Calls Reconstruct and prints the line of the case.
-fn run_lists(case: Case, targets: &[i32], values: &[u32], masses: &mut [u32], scratch: &mut [i64])
-    requires in_order { InOrder case (length values.now) }
-    requires parents_bound { (case.parents ≤ 4100) × (case.targets ≤ length targets.now) }
-    requires masses_bound { (case.masses ≤ 600) × (case.masses ≤ length masses.old) × (case.scratch ≤ length scratch.old) }
-{
-    let cells = case.targets;
-    let n = case.masses;
-    let k = case.scratch;
-    let answer = call(
-        case,
-        &targets[0..cells],
-        values,
-        &mut masses[0..n],
-        &mut scratch[0..k],
-    );
-    output::show(answer, &masses[0..n]);
-    output::show_scratch(
-        SCRATCH_PER_NODE * (case.parents - case.weights),
-        &scratch[0..k],
-    );
-}
-
-// Runs the case that starts at `at`. Returns where the next may start.
-fn run_case(text: &[u8], at: usize) -> usize
-    requires { at ≤ length text.now }
-{
-    let case = input::read_case(text, at);
-    let mut targets = [0i32; 600];
-    let lists = fill_targets(text, case.next, case.targets, &mut targets);
-    let mut values = [0u32; 4100];
-    let next = input::fill_values(text, lists, case, &mut values);
-    let mut masses = [7u32; 600];
-    let mut scratch = [5i64; 6600];
-    run_lists(case, &targets, &values, &mut masses, &mut scratch);
-    skip(text, next)
-}
-
-// Runs all cases. Each takes at least a byte, so that the loop ends whatever the bytes are.
-fn run_all(text: &[u8]) {
-    let mut at = skip(text, 0);
-    while at < text.len() {
-        at = later(at + 1, run_case(text, at));
+// Runs the cases of a text. There are no more of them than bytes.
+fn run_all(text: &[u8]) -> fmt::Result {
+    let mut reader = Reader::new(text);
+    for _ in 0..text.len() {
+        if !reader.begin_case() {
+            break;
+        }
+        run_case(&mut reader)?;
     }
+    Ok(())
 }
 
 // Reads the input, and runs its cases.
 fn main() {
     let mut space = io::large_buffer();
     let n = io::read_full(STANDARD_INPUT, &mut space);
-    run_all(&space[..n]);
+    let _ = run_all(&space[..n]);
 }

@@ -3,27 +3,24 @@
 // The node itself, and of any other its parent. Nodes stay below 15, so that the remainder changes none.
 fn climb(parents: &[u32; 15], x: u32, node: u32) -> u32 {
     if x == node {
-        return node;
+        node
+    } else {
+        parents[(x % 15) as usize]
     }
-    parents[(x % 15) as usize]
 }
 
 // Whether a cell lies below a node: no way up is longer than 15 nodes.
 fn lies_below(parents: &[u32; 15], cell: u32, node: u32) -> bool {
     let mut x = cell;
-    let mut i: usize = 0;
-    while i < 15 {
+    for _ in 0..15 {
         x = climb(parents, x, node);
-        i += 1;
     }
     x == node
 }
 
 // Writes of each cell whether it lies below a node.
 pub fn fill_below(parents: &[u32; 15], node: u32, below: &mut [bool; 8]) {
-    let mut cell: u32 = 0;
-    while cell < 8 {
-        below[cell as usize] = lies_below(parents, cell, node);
-        cell += 1;
+    for (cell, lies) in below.iter_mut().enumerate() {
+        *lies = lies_below(parents, cell as u32, node);
     }
 }

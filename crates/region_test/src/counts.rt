@@ -1,87 +1,77 @@
-// The counts, in one list. Seven are of Reconstruct of the field and of the edited one: the rounds in which the first was accepted and refused; of
-// the rounds in which both were accepted the cells outside the node, those whose masses differ, the cells below it, and those whose masses differ;
-// and the rounds in which the two answered otherwise. Then come seven of the steps, seven of Reconstruct of the field and of the one with a changed
-// sum, and the rounds in which a mass outside differs with that one.
-ghost use Rattle.std.specs.Prelude.{◌<◌};
-
+// What is counted over all rounds.
+use numbers::Refusal;
 use test_support::draws::more;
 
-// What a call answered: whether it was accepted, and its outcome and total, or the refusal's number and place.
-#[derive(Clone, Copy)]
-pub struct Told {
-    pub accepted: bool,
-    pub first: u32,
-    pub second: u32,
+// The cells on one side of the node, and those of them whose masses differ.
+#[derive(Clone, Copy, Default)]
+pub struct Cells {
+    pub all: u32,
+    pub differ: u32,
 }
 
-// One more at a place, if it is to be counted.
-fn count_if(counted: bool, at: usize, counts: &mut [u32; 22])
-    requires { at < 22 }
-{
-    if counted {
-        counts[at] = more(counts[at]);
+// Of two calls in each round: the rounds in which the first was accepted and refused; of the rounds in which both were accepted the cells outside
+// the node and those below it; and the rounds in which the two answered otherwise.
+#[derive(Clone, Copy, Default)]
+pub struct Calls {
+    pub accepted: u32,
+    pub refused: u32,
+    pub outside: Cells,
+    pub below: Cells,
+    pub otherwise: u32,
+}
+
+// Of Reconstruct of the field and of the edited one; of the steps; of Reconstruct of the field and of the one with a changed sum; and the rounds
+// in which a mass outside differs with that one.
+#[derive(Clone, Copy, Default)]
+pub struct Counts {
+    pub repairs: Calls,
+    pub steps: Calls,
+    pub changed: Calls,
+    pub rounds: u32,
+}
+
+// What is compared of an answer: the outcome and the total, or the refusal.
+pub type Told = Result<(u32, u32), Refusal>;
+
+// Counts a cell by what its masses are.
+fn count_cell(first: u32, second: u32, cells: &mut Cells) {
+    cells.all = more(cells.all);
+    if first != second {
+        cells.differ = more(cells.differ);
     }
 }
 
-// Whether two calls answered otherwise.
-fn otherwise(first: Told, second: Told) -> bool {
-    first.accepted != second.accepted
-        || first.first != second.first
-        || first.second != second.second
-}
-
-// Where the cells on a side of the node are counted, by the place of those outside.
-fn side(below: bool, at: usize) -> usize
-    requires { at < 17 }
-    ensures { result < 19 }
-{
-    if below { at + 2 } else { at }
-}
-
-// Counts a cell by its side of the node, and if its masses differ at the next place.
-fn count_cell(below: bool, first: u32, second: u32, at: usize, counts: &mut [u32; 22])
-    requires { at < 17 }
-{
-    let place = side(below, at);
-    count_if(true, place, counts);
-    count_if(first != second, place + 1, counts);
-}
-
-// Counts the cells outside the node at a place, those that differ at the next, and the cells below it at the two behind.
-fn count_cells(
-    first: &[u32; 8],
-    second: &[u32; 8],
-    below: &[bool; 8],
-    at: usize,
-    counts: &mut [u32; 22],
-)
-    requires { at < 17 }
-{
-    let mut i: usize = 0;
-    while i < 8 {
-        count_cell(below[i], first[i], second[i], at, counts);
-        i += 1;
+// Counts the cells on each side of the node.
+fn count_cells(first: &[u32; 8], second: &[u32; 8], below: &[bool; 8], calls: &mut Calls) {
+    for i in 0..8 {
+        if below[i] {
+            count_cell(first[i], second[i], &mut calls.below);
+        } else {
+            count_cell(first[i], second[i], &mut calls.outside);
+        }
     }
 }
 
-// Counts two calls in the seven places from one on.
+// Counts two calls with the masses that they left.
 pub fn count_calls(
     first: Told,
     second: Told,
     masses: &[u32; 8],
     others: &[u32; 8],
     below: &[bool; 8],
-    at: usize,
-    counts: &mut [u32; 22],
-)
-    requires { at < 15 }
-{
-    count_if(first.accepted, at, counts);
-    count_if(!first.accepted, at + 1, counts);
-    if first.accepted && second.accepted {
-        count_cells(masses, others, below, at + 2, counts);
+    calls: &mut Calls,
+) {
+    if first.is_ok() {
+        calls.accepted = more(calls.accepted);
+    } else {
+        calls.refused = more(calls.refused);
     }
-    count_if(otherwise(first, second), at + 6, counts);
+    if first.is_ok() && second.is_ok() {
+        count_cells(masses, others, below, calls);
+    }
+    if first != second {
+        calls.otherwise = more(calls.otherwise);
+    }
 }
 
 // Counts the calls of Reconstruct of the field and of the one with a changed sum, and the round if a cell outside the node differs.
@@ -91,9 +81,11 @@ pub fn count_changed(
     masses: &[u32; 8],
     changed: &[u32; 8],
     below: &[bool; 8],
-    counts: &mut [u32; 22],
+    counts: &mut Counts,
 ) {
-    let before = counts[17];
-    count_calls(first, second, masses, changed, below, 14, counts);
-    count_if(before < counts[17], 21, counts);
+    let before = counts.changed.outside.differ;
+    count_calls(first, second, masses, changed, below, &mut counts.changed);
+    if before < counts.changed.outside.differ {
+        counts.rounds = more(counts.rounds);
+    }
 }

@@ -1,6 +1,7 @@
 // A field of 8 cells as a value, drawn around kept masses, and its cells.
 ghost use Rattle.std.specs.Prelude.{◌<◌};
 
+use qlt_spec::FieldLists;
 use test_support::fields::fill;
 
 // The six lists of a field.
@@ -12,6 +13,21 @@ pub struct Field {
     pub safe_lows: [u32; 8],
     pub safe_highs: [u32; 8],
     pub weights: [u32; 8],
+}
+
+impl Field {
+    // Its lists, and a tree.
+    pub fn lists<'a>(&'a self, parents: &'a [u32]) -> FieldLists<'a> {
+        FieldLists {
+            targets: &self.targets,
+            lows: &self.lows,
+            highs: &self.highs,
+            safe_lows: &self.safe_lows,
+            safe_highs: &self.safe_highs,
+            weights: &self.weights,
+            parents,
+        }
+    }
 }
 
 // A field, and the generator's state behind its draws.
@@ -82,8 +98,7 @@ pub fn with_cell(field: Field, i: usize, cell: Cell) -> Field
     requires { i < 8 }
 {
     let mut next = field;
-    let target = cell.target;
-    next.targets[i] = target;
+    next.targets[i] = cell.target;
     next.lows[i] = cell.low;
     next.highs[i] = cell.high;
     next.safe_lows[i] = cell.safe_low;

@@ -10,14 +10,16 @@
 // outside, those whose masses differ, and the rounds with such a cell. Outside the node no mass may differ and no answer may be otherwise, but
 // with a changed sum masses outside do differ. `stdout` was written by an implementation of the papers' own words in another language, and not by
 // this program. Numbers stay far below the remainders by which overflow is ruled out.
-// Relies on `kept` and `reconstruct`, which it tests, `kept_spec` and `qlt_spec` for the answers, `test_support`, `numbers` in proofs, and the
-// kit's `io`.
+// Relies on `kept` and `reconstruct`, which it tests, `kept_spec`, `qlt_spec` and `numbers` for the answers, and `test_support`.
 #![tactic(auto)]
 
-use output::show_counts;
+use counts::Counts;
 use repairs::show_repairs;
 use round::draw_round;
-use steps::{Standing, open, step_both};
+use std::fmt;
+use std::fmt::Write;
+use steps::{Standing, step_both};
+use test_support::output::Output;
 
 mod below;
 mod counts;
@@ -26,67 +28,55 @@ mod field;
 mod output;
 mod repairs;
 mod round;
-mod signed;
 mod steps;
 
-// The generator's state, and what stands beside the kept masses of the first field and of the second.
-#[derive(Clone, Copy)]
-pub struct Run {
-    pub state: u32,
-    pub first: Standing,
-    pub second: Standing,
+// Prints the lines of the counts.
+fn show_counts(counts: &Counts) -> fmt::Result {
+    let repairs = counts.repairs;
+    let steps = counts.steps;
+    writeln!(
+        Output,
+        "rounds 100 reconstructed {} refused {} stepped {} refused {}",
+        repairs.accepted, repairs.refused, steps.accepted, steps.refused
+    )?;
+    writeln!(
+        Output,
+        "outside cells {} reconstructed otherwise {} cells {} stepped otherwise {}",
+        repairs.outside.all, repairs.outside.differ, steps.outside.all, steps.outside.differ
+    )?;
+    writeln!(
+        Output,
+        "below cells {} reconstructed otherwise {} cells {} stepped otherwise {}",
+        repairs.below.all, repairs.below.differ, steps.below.all, steps.below.differ
+    )?;
+    writeln!(
+        Output,
+        "answers otherwise {} {}",
+        repairs.otherwise, steps.otherwise
+    )?;
+    let changed = counts.changed.outside;
+    writeln!(
+        Output,
+        "changed cells {} reconstructed otherwise {} rounds {}",
+        changed.all, changed.differ, counts.rounds
+    )
 }
 
-// Draws a round, and makes its calls.
-fn one_round(
-    run: Run,
-    first: &mut [u32; 8],
-    second: &mut [u32; 8],
-    book: &mut [u8; 32768],
-    other: &mut [u8; 32768],
-    counts: &mut [u32; 22],
-) -> Run {
-    let round = draw_round(run.state, first);
-    show_repairs(round, run.first.balance.total, counts);
-    step_both(run, round, first, second, book, other, counts)
-}
-
-// Makes 100 rounds.
-fn all_rounds(
-    run: Run,
-    first: &mut [u32; 8],
-    second: &mut [u32; 8],
-    book: &mut [u8; 32768],
-    other: &mut [u8; 32768],
-    counts: &mut [u32; 22],
-) {
-    let mut now = run;
-    let mut i: usize = 0;
-    while i < 100 {
-        now = one_round(now, first, second, book, other, counts);
-        i += 1;
+// Opens the two kept fields, makes 100 rounds, and prints the counts.
+fn run_all() -> fmt::Result {
+    let mut first = Standing::open();
+    let mut second = Standing::open();
+    let mut counts = Counts::default();
+    let mut state = 1;
+    for _ in 0..100 {
+        let round = draw_round(state, &first.masses);
+        show_repairs(&round, first.balance.total, &mut counts)?;
+        step_both(&round, &mut first, &mut second, &mut counts.steps)?;
+        state = round.state;
     }
+    show_counts(&counts)
 }
 
-// Opens the two kept fields, makes the rounds, and prints the counts.
 fn main() {
-    let mut first = [1000u32; 8];
-    let mut second = [1000u32; 8];
-    let mut book = [0u8; 32768];
-    let mut other = [0u8; 32768];
-    let mut counts = [0u32; 22];
-    let run = Run {
-        state: 1,
-        first: open(&first, &mut book),
-        second: open(&second, &mut other),
-    };
-    all_rounds(
-        run,
-        &mut first,
-        &mut second,
-        &mut book,
-        &mut other,
-        &mut counts,
-    );
-    show_counts(&counts);
+    let _ = run_all();
 }

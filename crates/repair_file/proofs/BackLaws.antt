@@ -1,10 +1,11 @@
 -- The field in the bytes of a field that a file can hold is that field, and the file's verdict is Reconstruct's. Assumes nothing.
+use Rattle.std.specs.Prelude.{Ok}
 use mathlib.Core.Path.{◌≡◌, ◌∙◌, ap}
+use Rattle.files_spec.specs.declared.Sizes.{Sizes}
 use Prim.Native.Nat.{ℕ, ◌*◌}
 use native.Mathlib.Omega.{arith}
 use lib.IntN.{pos}
 use lib.ListN.{length}
-use Rattle.numbers.specs.declared.Checked.TheVariants.{Pass}
 use Rattle.numbers.specs.Lists.{list_to}
 use Rattle.numbers.specs.Checks.{both}
 use Rattle.numbers.proofs.CheckLaws.{both-pass}
@@ -12,7 +13,7 @@ use Rattle.numbers.proofs.ListLaws.{length-list_to}
 use Rattle.qlt_spec.specs.Field.{Lists, cells, nodes, scratch_per_node}
 use Rattle.qlt_spec.specs.Operation.{reconstruct_call, reconstruct_verdict}
 use Rattle.files_spec.specs.FieldFile.{field_bytes}
-use Rattle.files_spec.specs.ReadField.{Room, Sizes, file_cells, file_nodes, file_total, file_lists}
+use Rattle.files_spec.specs.ReadField.{Room, file_cells, file_nodes, file_total, file_lists}
 use Rattle.files_spec.specs.Stored.{Storable, FieldBack}
 use Rattle.files_spec.proofs.BackLaws.{field_back}
 use Rattle.repair_file.specs.RepairFile.{largest, file_call, file_verdict}
@@ -60,6 +61,6 @@ pub stored-verdict :
     → file_verdict (field_bytes f M) ≡ reconstruct_verdict (reconstruct_call f M (list_to (cells f) (λ i. 0)) (list_to (scratch_per_node * nodes f) (λ i. pos 0)))
 unfolding file_verdict
 stored-verdict f M g =
-    ap (λ x. both x (both (reconstruct_verdict (file_call (field_bytes f M))) Pass)) (back f M g).passes
+    ap (λ x. both x (both (reconstruct_verdict (file_call (field_bytes f M))) (Ok tt))) (back f M g).passes
     ∙ both-pass (reconstruct_verdict (file_call (field_bytes f M)))
     ∙ rw (same_lists f M g, same_cells f M g, same_nodes f M g, same_total f M g)

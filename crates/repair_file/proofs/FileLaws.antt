@@ -1,37 +1,32 @@
 -- Laws of reading and repairing a file: verdicts go by lengths, the front of a list that was read is what the file holds, and what the
 -- contract alone says of a call. Assumes nothing.
+use Rattle.std.specs.Prelude.{Ok, Err}
 use mathlib.Core.Path.{◌≡◌, refl, sym, ◌∙◌, ap}
+use Rattle.files_spec.specs.declared.Sizes.{Sizes}
+use Rattle.files_spec.specs.declared.Repaired.{Repaired}
 use mathlib.Core.List.{List, ◌++◌}
-use Prim.Native.Nat.{ℕ, ◌*◌, ◌-◌, ◌≤◌, ◌<◌}
+use Prim.Native.Nat.{ℕ, ◌*◌, ◌≤◌, ◌<◌}
 use native.Mathlib.Nat.{sub-zero}
 use native.Mathlib.Omega.{arith}
 use lib.IntN.{ℤ, pos}
 use lib.ListN.{length, take, drop, take-append-drop}
 use lib.Seq.{length-take-le}
 use borrow.Author.Tests.{le-leb}
-use Rattle.numbers.specs.declared.Checked.{Checked}
-use Rattle.numbers.specs.declared.Checked.TheVariants.{Pass, Fail}
 use Rattle.numbers.specs.Lists.{list_to, written}
-use Rattle.numbers.specs.Checks.{answered, after, both}
+use Rattle.numbers.specs.Checks.{Checked, Answered, refused, answered, after, both}
 use Rattle.numbers.proofs.CheckLaws.{both_first, both-pass, answered-accepted, answered-refused}
 use Rattle.numbers.proofs.ListLaws.{length-list_to}
 use Rattle.numbers.proofs.PartLaws.{put_back, front-written}
 use Rattle.qlt_spec.specs.declared.Repair.{Repair}
-use Rattle.qlt_spec.specs.declared.Reconstructed.{Reconstructed}
 use Rattle.qlt_spec.specs.Field.{Lists, nodes, scratch_per_node, max_scratch, field}
 use Rattle.qlt_spec.specs.Masses.{tree_mass, tree_masses}
-use Rattle.qlt_spec.specs.Operation.{reconstruct_call, reconstruct_verdict, repair, reconstruct_tells, cleared, ReconstructContract}
+use Rattle.qlt_spec.specs.Operation.{reconstruct_call, reconstruct_verdict, repair, cleared, ReconstructContract}
 use Rattle.qlt_spec.proofs.OperationLaws.{checks-by}
-use Rattle.files_spec.specs.declared.FieldRead.{FieldRead}
-use Rattle.files_spec.specs.declared.FieldRead.TheVariants as read
 use Rattle.files_spec.specs.ReadField.{file_cells, file_nodes, file_total, head_verdict, read_verdict, ReadFits, lists_read, ReadContract, file_lists}
 use Rattle.files_spec.proofs.FrontLaws.{held-sized, fronts-over}
 use Rattle.files_spec.proofs.ReadLaws.{read_done, read-refused, read-accepts}
-use Rattle.repair_file.specs.declared.FileRepaired.{FileRepaired}
-use Rattle.repair_file.specs.declared.FileRepaired.TheVariants.{Done, Refused}
 use Rattle.files_spec.specs.FieldFile.{fronts}
-use Rattle.files_spec.specs.AnswerFile.{Repaired}
-use Rattle.repair_file.specs.RepairFile.{largest, file_call, file_verdict, file_repair, file_masses, repaired_of, file_tells, RepairsFile, front_call, beside, RepairsFronts}
+use Rattle.repair_file.specs.RepairFile.{largest, file_call, file_verdict, file_repair, file_masses, repaired_of, RepairsFile, front_call, beside, RepairsFronts}
 
 -- ---- verdicts go by lengths
 
@@ -100,19 +95,19 @@ length-masses file = ap length (masses-are file) ∙ length-list_to (file_cells 
 -- ---- Reconstruct on the front of longer lists
 
 pub beside-answered : (v : Checked) (n : ℕ) (r : Repair) → beside n (answered v r) ≡ answered v (record { cells = n; repair = r })
-beside-answered Pass n r = refl
-beside-answered (Fail number place) n r = refl
+beside-answered (Ok tt) n r = refl
+beside-answered (Err e) n r = refl
 
 -- the part that was lent is put back before the rest
 back : (v : Checked) (n : ℕ) (masses part new : List ℕ) → length new ≡ n → part ≡ after v new (take n masses)
-    → part ++ drop (n - 0) masses ≡ after v (written masses 0 new) masses
-back Pass n masses part new h e = rw e (put_back 0 n masses new (omega arith))
-back (Fail number place) n masses part new h e = rw (e, sub-zero) (take-append-drop n masses)
+    → part ++ drop n masses ≡ after v (written masses 0 new) masses
+back (Ok tt) n masses part new h e = rw e (rw sub-zero at (put_back 0 n masses new (omega arith)))
+back (Err r) n masses part new h e = rw e (take-append-drop n masses)
 
 pub fronts-repaired :
-    (n m M : ℕ) (s : Lists) (masses part : List ℕ) (scratch scratch' : List ℤ) (a : Reconstructed) (r : FileRepaired) → n ≤ length s.targets
-    → ReconstructContract (front_call n m M s masses scratch) a part scratch' → file_tells r ≡ beside n (reconstruct_tells a)
-    → RepairsFronts n m M s masses scratch r (part ++ drop (n - 0) masses) scratch'
+    (n m M : ℕ) (s : Lists) (masses part : List ℕ) (scratch scratch' : List ℤ) (a : Answered Repair) (r : Answered Repaired) → n ≤ length s.targets
+    → ReconstructContract (front_call n m M s masses scratch) a part scratch' → r ≡ beside n a
+    → RepairsFronts n m M s masses scratch r (part ++ drop n masses) scratch'
 unfolding tree_masses
 fronts-repaired n m M s masses part scratch scratch' a r h p e =
     record {
@@ -125,20 +120,19 @@ fronts-repaired n m M s masses part scratch scratch' a r h p e =
 
 module _ (file : List ℕ) (s : Lists) (roomy : Roomy s) where
   -- the verdict of a file that is refused by reading, and of one that is read
-  unread-verdict : {number place : ℕ} → read_verdict file s ≡ Fail number place → file_verdict file ≡ Fail number place
+  unread-verdict : {number place : ℕ} → read_verdict file s ≡ refused number place → file_verdict file ≡ refused number place
   unfolding file_verdict
-  unread-verdict e = ap (λ x. both x (both (reconstruct_verdict (file_call file)) Pass)) (sym (read-largest file s roomy) ∙ e)
+  unread-verdict e = ap (λ x. both x (both (reconstruct_verdict (file_call file)) (Ok tt))) (sym (read-largest file s roomy) ∙ e)
 
-  read-verdict : read_verdict file s ≡ Pass → file_verdict file ≡ reconstruct_verdict (file_call file)
+  read-verdict : read_verdict file s ≡ Ok tt → file_verdict file ≡ reconstruct_verdict (file_call file)
   unfolding file_verdict
-  read-verdict e = ap (λ x. both x (both (reconstruct_verdict (file_call file)) Pass)) (sym (read-largest file s roomy) ∙ e) ∙ both-pass (reconstruct_verdict (file_call file))
+  read-verdict e = ap (λ x. both x (both (reconstruct_verdict (file_call file)) (Ok tt))) (sym (read-largest file s roomy) ∙ e) ∙ both-pass (reconstruct_verdict (file_call file))
 
-  reads-by : {r : FieldRead} {t : Lists} → ReadContract file s r t → t ≡ after (read_verdict file largest) (lists_read file s) s
+  reads-by : {r : Answered Sizes} {t : Lists} → ReadContract file s r t → t ≡ after (read_verdict file largest) (lists_read file s) s
   reads-by p = p.writes ∙ ap (λ x. after x (lists_read file s) s) (read-largest file s roomy)
 
   pub file-unread : (masses : List ℕ) (scratch : List ℤ) {number place : ℕ} {t : Lists}
-      → ReadContract file s (read.Refused number place) t → RepairsFile file s masses scratch (Refused number place) t masses scratch
-  unfolding file_tells
+      → ReadContract file s (refused number place) t → RepairsFile file s masses scratch (refused number place) t masses scratch
   file-unread masses scratch p =
       let f = unread-verdict (read-refused p).0 in
       record {
@@ -148,7 +142,7 @@ module _ (file : List ℕ) (s : Lists) (roomy : Roomy s) where
         leaves = sym (ap (λ x. after x (cleared (scratch_per_node * file_nodes file) scratch) scratch) f);
       }
 
-  module _ {t : Lists} {n m M : ℕ} (p : ReadContract file s (read.Read n m M) t) where
+  module _ {t : Lists} {n m M : ℕ} (p : ReadContract file s (Ok (record { cells = n; nodes = m; total = M })) t) where
     fit : ReadFits file s
     fit = (read_done p).0
 
@@ -170,7 +164,7 @@ module _ (file : List ℕ) (s : Lists) (roomy : Roomy s) where
       same-verdict : reconstruct_verdict (front_call n m M t masses scratch) ≡ file_verdict file
       same-verdict = front-verdict ∙ sym (read-verdict ((read-accepts file s).1 fit))
 
-      pub file-read : (r : FileRepaired) (masses' : List ℕ) (scratch' : List ℤ) → RepairsFronts n m M t masses scratch r masses' scratch' → RepairsFile file s masses scratch r t masses' scratch'
+      pub file-read : (r : Answered Repaired) (masses' : List ℕ) (scratch' : List ℤ) → RepairsFronts n m M t masses scratch r masses' scratch' → RepairsFile file s masses scratch r t masses' scratch'
       unfolding file_repair file_masses
       file-read r masses' scratch' q =
           let e = (read_done p).1 in
@@ -193,7 +187,7 @@ module _ (file : List ℕ) (s : Lists) (roomy : Roomy s) where
 
 -- an accepted file: n and r are told, and `ts` and `ms` are the lists of targets and masses as they are left
 pub record FileDone (file : List ℕ) (n : ℕ) (r : Repair) (ts : List ℤ) (ms : List ℕ) : Type 0 where
-  pub accepts : file_verdict file ≡ Pass
+  pub accepts : file_verdict file ≡ Ok tt
   pub cells : n ≡ file_cells file
   pub repair : r ≡ file_repair file
   pub some : 0 < n
@@ -203,15 +197,15 @@ pub record FileDone (file : List ℕ) (n : ℕ) (r : Repair) (ts : List ℤ) (ms
 
 module _ {file : List ℕ} {s t : Lists} {masses masses' : List ℕ} {scratch scratch' : List ℤ} where
   -- the masses of an accepted file stand at the front of their list
-  pub left-masses : {a : FileRepaired} → RepairsFile file s masses scratch a t masses' scratch' → file_verdict file ≡ Pass → take (file_cells file) masses' ≡ file_masses file
+  pub left-masses : {a : Answered Repaired} → RepairsFile file s masses scratch a t masses' scratch' → file_verdict file ≡ Ok tt → take (file_cells file) masses' ≡ file_masses file
   left-masses p e = rw (p.writes, e, masses-are file) (front masses (file_cells file) _)
 
-  pub file-done : {n : ℕ} {r : Repair} → RepairsFile file s masses scratch (Done n r) t masses' scratch' → FileDone file n r t.targets masses'
-  unfolding file_tells file_verdict
+  pub file-done : {n : ℕ} {r : Repair} → RepairsFile file s masses scratch (Ok (record { cells = n; repair = r })) t masses' scratch' → FileDone file n r t.targets masses'
+  unfolding file_verdict
   file-done {n} {r} p =
       let e = answered-accepted (file_verdict file) (record { cells = n; repair = r }) (repaired_of file) p.answers in
       let c : n ≡ file_cells file = ap (λ (z : Repaired). z.cells) e.1 in
-      let v : read_verdict file largest ≡ Pass = both_first _ _ e.0 in
+      let v : read_verdict file largest ≡ (Ok tt) = both_first _ _ e.0 in
       let f = ((read-accepts file largest).0 v).head in
       let l = fronts-read file s in
       record {
@@ -224,6 +218,5 @@ module _ {file : List ℕ} {s t : Lists} {masses masses' : List ℕ} {scratch sc
         targets = rw (p.reads, v, c) (ap (λ (z : Lists). z.targets) l);
       }
 
-  pub file-refused : {number place : ℕ} → RepairsFile file s masses scratch (Refused number place) t masses' scratch' → file_verdict file ≡ Fail number place
-  unfolding file_tells
+  pub file-refused : {number place : ℕ} → RepairsFile file s masses scratch (refused number place) t masses' scratch' → file_verdict file ≡ refused number place
   file-refused {number} {place} p = answered-refused (file_verdict file) (repaired_of file) number place p.answers

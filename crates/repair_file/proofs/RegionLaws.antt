@@ -1,12 +1,13 @@
 -- Edits stay in their region, of two field files and of two calls that repair them, from their contracts alone. Assumes nothing.
+use Rattle.std.specs.Prelude.{Ok}
 use mathlib.Core.Path.{◌≡◌, sym, ◌∙◌, ap₂, subst}
+use Rattle.files_spec.specs.declared.Repaired.{Repaired}
 use mathlib.Core.List.{List, [], ◌∷◌}
 use Prim.Native.Nat.{ℕ, ◌*◌}
 use native.Mathlib.Omega.{arith}
 use lib.IntN.{ℤ}
 use lib.ListN.{length, take}
-use Rattle.numbers.specs.declared.Checked.TheVariants.{Pass}
-use Rattle.numbers.specs.Checks.{first}
+use Rattle.numbers.specs.Checks.{Answered, first}
 use Rattle.numbers.proofs.ListLaws.{length-list_to}
 use Rattle.qlt_spec.specs.Field.{Lists, scratch_per_node, field}
 use Rattle.qlt_spec.specs.Facts.{FieldFacts}
@@ -17,8 +18,7 @@ use Rattle.qlt_spec.proofs.RegionCallLaws.{verdict-same, repair-same, told_same}
 use Rattle.files_spec.specs.ReadField.{file_cells, file_nodes, file_total, ReadFits, file_lists}
 use Rattle.files_spec.proofs.FrontLaws.{held-sized}
 use Rattle.files_spec.proofs.ReadLaws.{read-accepts}
-use Rattle.repair_file.specs.declared.FileRepaired.{FileRepaired}
-use Rattle.repair_file.specs.RepairFile.{largest, file_call, file_verdict, file_repair, file_masses, repaired_of, file_tells, RepairsFile}
+use Rattle.repair_file.specs.RepairFile.{largest, file_call, file_verdict, file_repair, file_masses, repaired_of, RepairsFile}
 use Rattle.repair_file.specs.Region.{EditedFile, SameFiles, SameRepaired}
 use Rattle.repair_file.proofs.FileLaws.{left-masses}
 use Rattle.repair_file.proofs.VerdictLaws.{file-accepts}
@@ -67,7 +67,7 @@ module _ {file edited : List ℕ} {v : ℕ} (h : EditedFile file edited v) where
   cells_same : file_cells file ≡ file_cells edited
   cells_same = sym (held-sized file).targets ∙ h.fields.tree.cells ∙ (held-sized edited).targets
 
-  repairs-same : file_verdict file ≡ Pass → SameRepair (field (file_lists file)) v (file_repair file) (file_repair edited) (file_masses file) (file_masses edited)
+  repairs-same : file_verdict file ≡ Ok tt → SameRepair (field (file_lists file)) v (file_repair file) (file_repair edited) (file_masses file) (file_masses edited)
   unfolding file_repair file_masses
   repairs-same e =
       subst (λ M. SameRepair (field (file_lists file)) v (repair (file_lists file) (file_total file)) (repair (file_lists edited) M) (file_masses file) (file_masses edited)) h.total
@@ -81,13 +81,13 @@ module _ {file edited : List ℕ} {v : ℕ} (h : EditedFile file edited v) where
   file-region = record { verdict = file-verdict-same; cells = cells_same; repair = repairs-same }
 
   -- and of two calls that repair them
-  module _ (a b : FileRepaired) {s t s' t' : Lists} {xs ys xs' ys' : List ℕ} {scratch scratch' left left' : List ℤ} where
+  module _ (a b : Answered Repaired) {s t s' t' : Lists} {xs ys xs' ys' : List ℕ} {scratch scratch' left left' : List ℤ} where
     pub repair-file-region :
         RepairsFile file s xs scratch a t xs' left → RepairsFile edited s' ys scratch' b t' ys' left'
-        → SameTold (SameRepaired (field (file_lists file)) v xs' ys') (file_tells a) (file_tells b)
+        → SameTold (SameRepaired (field (file_lists file)) v xs' ys') a b
     repair-file-region p q = told_same (repaired_of file) (repaired_of edited) file-verdict-same p.answers q.answers same
       where
-        same : file_verdict file ≡ Pass → SameRepaired (field (file_lists file)) v xs' ys' (repaired_of file) (repaired_of edited)
+        same : file_verdict file ≡ Ok tt → SameRepaired (field (file_lists file)) v xs' ys' (repaired_of file) (repaired_of edited)
         same e =
             record {
               cells = cells_same;

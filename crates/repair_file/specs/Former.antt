@@ -1,8 +1,7 @@
 -- The repair of a file as it was before ticket 9 of 02: Reconstruct's call had 6 numbers of scratch for each node. Assumes nothing.
 use Rattle.std.specs.Prelude.{List, [], ◌∷◌, ℕ, ◌*◌, pos}
-use Rattle.numbers.specs.declared.Checked.{Checked}
 use Rattle.numbers.specs.Lists.{list_to}
-use Rattle.numbers.specs.Checks.{first}
+use Rattle.numbers.specs.Checks.{Checked, first}
 use Rattle.qlt_spec.specs.Operation.{ReconstructCall, reconstruct_call}
 use Rattle.qlt_spec.specs.Former.{former_per_node, former_verdict}
 use Rattle.files_spec.specs.ReadField.{file_cells, file_nodes, file_total, read_verdict, file_lists}

@@ -1,17 +1,14 @@
 -- From a field file's bytes to the repaired masses: reading, then Reconstruct. Assumes nothing.
-use Rattle.std.specs.Prelude.{◌≡◌, List, [], ◌∷◌, ◌++◌, ℕ, ◌*◌, ℤ, pos, take}
-use Rattle.numbers.specs.declared.Checked.{Checked}
+use Rattle.std.specs.Prelude.{Ok, Err, ◌≡◌, List, [], ◌∷◌, ◌++◌, ℕ, ◌*◌, ℤ, pos, take}
+use Rattle.files_spec.specs.declared.Repaired.{Repaired}
 use Rattle.numbers.specs.Lists.{list_to, written}
-use Rattle.numbers.specs.Checks.{Answered, accepted, refused, answered, after, first, Rule}
+use Rattle.numbers.specs.Checks.{Checked, Answered, answered, after, first, Rule}
 use Rattle.qlt_spec.specs.declared.Repair.{Repair}
 use Rattle.qlt_spec.specs.Field.{Lists, lists, nodes, scratch_per_node, field}
 use Rattle.qlt_spec.specs.Masses.{tree_masses}
 use Rattle.qlt_spec.specs.Operation.{ReconstructCall, reconstruct_call, reconstruct_verdict, reconstruct_rules, ReconstructFits, repair, cleared}
 use Rattle.files_spec.specs.FieldFile.{fronts}
 use Rattle.files_spec.specs.ReadField.{file_cells, file_nodes, file_total, read_verdict, read_rules, ReadFits, file_lists, lists_read}
-use Rattle.files_spec.specs.AnswerFile.{Repaired}
-use Rattle.repair_file.specs.declared.FileRepaired.{FileRepaired}
-use Rattle.repair_file.specs.declared.FileRepaired.TheVariants.{Done, Refused}
 
 -- lists that have room for every field: reading into them is never refused with 3
 abbrev pub largest : Lists
@@ -48,13 +45,9 @@ file_masses file = tree_masses (field (file_lists file)) (file_total file)
 abbrev pub repaired_of : List ℕ → Repaired
 repaired_of file = record { cells = file_cells file; repair = file_repair file }
 
-unfoldable pub file_tells : FileRepaired → Answered Repaired
-file_tells (Done n r) = accepted (record { cells = n; repair = r })
-file_tells (Refused number place) = refused number place
-
 -- what the code leaves: s and t are the lists of the field before and after
-pub record RepairsFile (file : List ℕ) (s : Lists) (masses : List ℕ) (scratch : List ℤ) (answer : FileRepaired) (t : Lists) (masses' : List ℕ) (scratch' : List ℤ) : Type 0 where
-  pub answers : file_tells answer ≡ answered (file_verdict file) (repaired_of file)
+pub record RepairsFile (file : List ℕ) (s : Lists) (masses : List ℕ) (scratch : List ℤ) (answer : Answered Repaired) (t : Lists) (masses' : List ℕ) (scratch' : List ℤ) : Type 0 where
+  pub answers : answer ≡ answered (file_verdict file) (repaired_of file)
   pub reads : t ≡ after (read_verdict file largest) (lists_read file s) s
   pub writes : masses' ≡ after (file_verdict file) (written masses 0 (file_masses file)) masses
   pub leaves : scratch' ≡ after (file_verdict file) (cleared (scratch_per_node * file_nodes file) scratch) scratch
@@ -66,11 +59,11 @@ front_call n m M s masses scratch = reconstruct_call (fronts n m s) M (take n ma
 
 -- what Reconstruct tells, with the number of cells beside it
 abbrev pub beside : ℕ → Answered Repair → Answered Repaired
-beside n (accepted r) = accepted (record { cells = n; repair = r })
-beside n (refused number place) = refused number place
+beside n (Ok r) = Ok (record { cells = n; repair = r })
+beside n (Err r) = Err r
 
 -- what the code leaves: the masses are those of the front of their list
-pub record RepairsFronts (n m M : ℕ) (s : Lists) (masses : List ℕ) (scratch : List ℤ) (answer : FileRepaired) (masses' : List ℕ) (scratch' : List ℤ) : Type 0 where
-  pub answers : file_tells answer ≡ beside n (answered (reconstruct_verdict (front_call n m M s masses scratch)) (repair (fronts n m s) M))
+pub record RepairsFronts (n m M : ℕ) (s : Lists) (masses : List ℕ) (scratch : List ℤ) (answer : Answered Repaired) (masses' : List ℕ) (scratch' : List ℤ) : Type 0 where
+  pub answers : answer ≡ beside n (answered (reconstruct_verdict (front_call n m M s masses scratch)) (repair (fronts n m s) M))
   pub writes : masses' ≡ after (reconstruct_verdict (front_call n m M s masses scratch)) (written masses 0 (tree_masses (field (fronts n m s)) M)) masses
   pub leaves : scratch' ≡ after (reconstruct_verdict (front_call n m M s masses scratch)) (cleared (scratch_per_node * nodes (fronts n m s)) scratch) scratch

@@ -1,61 +1,40 @@
 // Reading, then Reconstruct, over lent lists with room for every field.
 ghost use Rattle.std.specs.Prelude.{◌≡◌, ◌≤◌, length};
-ghost use Rattle.qlt_spec.specs.Field.{lists, max_scratch};
-ghost use Rattle.qlt_spec.specs.Operation.{reconstruct_tells};
-ghost use Rattle.repair_file.specs.RepairFile.{RepairsFile, RepairsFronts, file_tells, beside};
+ghost use Rattle.qlt_spec.specs.Field.{lists, lists_of, max_scratch};
+ghost use Rattle.repair_file.specs.RepairFile.{RepairsFile, RepairsFronts};
 
-use crate::FileRepaired;
 use field_file::read_field;
-use files_spec::FieldRead;
-use qlt_spec::Reconstructed;
+use files_spec::{Repaired, Sizes};
+use numbers::Refusal;
+use qlt_spec::FieldLists;
 use reconstruct::reconstruct;
 
-// What Reconstruct answers, with the number of cells.
-fn with_cells(cells: usize, answer: Reconstructed) -> FileRepaired
-    ensures { file_tells result ≡ beside cells (reconstruct_tells answer) }
-{
-    match answer {
-        Reconstructed::Done(repair) => FileRepaired::Done { cells, repair },
-        Reconstructed::Refused { number, place } => FileRepaired::Refused { number, place },
-    }
-}
-
-// Reconstruct on the first `cells` and `nodes` entries.
+// Reconstruct on the fronts of the lists, as long as the sizes say, with the number of cells beside its answer.
 fn repair_lists(
-    cells: usize,
-    nodes: usize,
-    total: u32,
-    targets: &[i32],
-    lows: &[u32],
-    highs: &[u32],
-    safe_lows: &[u32],
-    safe_highs: &[u32],
-    weights: &[u32],
-    parents: &[u32],
+    sizes: Sizes,
+    field: &FieldLists,
     masses: &mut [u32],
     scratch: &mut [i64],
-) -> FileRepaired
-    requires cells_bound { (cells ≤ 512) × (nodes ≤ 1024) × (length targets.now ≡ 512) × (length lows.now ≡ 512) × (length highs.now ≡ 512) ×
-        (length safe_lows.now ≡ 512) }
-    requires safe_highs_len { (length safe_highs.now ≡ 512) × (length weights.now ≡ 512) × (length parents.now ≡ 1024) × (length masses.old ≡ 512) }
-    ensures { RepairsFronts cells nodes total
-        (lists targets.now lows.now highs.now safe_lows.now safe_highs.now
-        weights.now parents.now)
-        masses.old scratch.old result masses.new scratch.new }
+) -> Result<Repaired, Refusal>
+    requires cells_bound { (sizes.cells ≤ 512) × (sizes.nodes ≤ 1024) × (length field.now.targets.now ≡ 512) × (length field.now.lows.now ≡ 512) ×
+        (length field.now.highs.now ≡ 512) × (length field.now.safe_lows.now ≡ 512) }
+    requires safe_highs_len { (length field.now.safe_highs.now ≡ 512) × (length field.now.weights.now ≡ 512) × (length field.now.parents.now ≡ 1024) ×
+        (length masses.old ≡ 512) }
+    ensures { RepairsFronts sizes.cells sizes.nodes sizes.total (lists_of field.now) masses.old scratch.old result masses.new scratch.new }
 {
-    let answer = reconstruct(
-        &targets[0..cells],
-        &lows[0..cells],
-        &highs[0..cells],
-        &safe_lows[0..cells],
-        &safe_highs[0..cells],
-        &weights[0..cells],
-        &parents[0..nodes],
-        total,
-        &mut masses[0..cells],
-        scratch,
-    );
-    with_cells(cells, answer)
+    let cells = sizes.cells;
+    let front = FieldLists {
+        targets: &field.targets[..cells],
+        lows: &field.lows[..cells],
+        highs: &field.highs[..cells],
+        safe_lows: &field.safe_lows[..cells],
+        safe_highs: &field.safe_highs[..cells],
+        weights: &field.weights[..cells],
+        parents: &field.parents[..sizes.nodes],
+    };
+    let answer = reconstruct(&front, sizes.total, &mut masses[..cells], scratch);
+    let repair = answer?;
+    Ok(Repaired { cells, repair })
 }
 
 // The masses of the field in a file.
@@ -70,7 +49,7 @@ pub fn repair_file(
     parents: &mut [u32],
     masses: &mut [u32],
     scratch: &mut [i64],
-) -> FileRepaired
+) -> Result<Repaired, Refusal>
     requires targets_len { (length targets.old ≡ 512) × (length lows.old ≡ 512) × (length highs.old ≡ 512) × (length safe_lows.old ≡ 512) }
     requires safe_highs_len { (length safe_highs.old ≡ 512) × (length weights.old ≡ 512) × (length parents.old ≡ 1024) × (length masses.old ≡ 512) ×
         (length scratch.old ≡ max_scratch) }
@@ -82,18 +61,17 @@ pub fn repair_file(
         weights.new parents.new)
         masses.new scratch.new }
 {
-    let read = read_field(
+    let sizes = read_field(
         file, targets, lows, highs, safe_lows, safe_highs, weights, parents,
-    );
-    match read {
-        FieldRead::Refused { number, place } => FileRepaired::Refused { number, place },
-        FieldRead::Read {
-            cells,
-            nodes,
-            total,
-        } => repair_lists(
-            cells, nodes, total, targets, lows, highs, safe_lows, safe_highs, weights, parents,
-            masses, scratch,
-        ),
-    }
+    )?;
+    let field = FieldLists {
+        targets,
+        lows,
+        highs,
+        safe_lows,
+        safe_highs,
+        weights,
+        parents,
+    };
+    repair_lists(sizes, &field, masses, scratch)
 }

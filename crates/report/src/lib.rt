@@ -4,14 +4,14 @@
 
 ghost use Rattle.report.specs.Report.{ReportContract};
 
-use text::Reported;
+use numbers::Refusal;
 use text::pieces::put_front;
 
 mod work;
 
 // Writes the text for a field file to the front of `out`: the listing, or the one line of a refusal of the file. `out` needs 16384 bytes;
 // a shorter one is refused with 3 and left as it was.
-pub fn report(file: &[u8], out: &mut [u8]) -> Reported
+pub fn report(file: &[u8], out: &mut [u8]) -> Result<usize, Refusal>
     ensures { ReportContract file.now out.old result out.new }
 {
     let mut text = [0u8; 16384];

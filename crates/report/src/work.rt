@@ -6,7 +6,6 @@ ghost use Rattle.report.specs.Report.{report_text};
 
 use listing::lines::put_listing;
 use qlt_spec::MAX_SCRATCH;
-use repair_file::FileRepaired;
 use repair_file::repair::repair_file;
 use text::pieces::put_refusal;
 
@@ -34,12 +33,12 @@ fn put_report_with(
         file, targets, lows, highs, safe_lows, safe_highs, weights, parents, masses, scratch,
     );
     match answer {
-        FileRepaired::Refused { number, place } => put_refusal(out, number, place, b'\n'),
-        FileRepaired::Done { cells, repair } => put_listing(
+        Err(refusal) => put_refusal(out, refusal, b'\n'),
+        Ok(repaired) => put_listing(
             out,
-            repair,
-            &masses[0..cells],
-            &targets[0..cells],
+            repaired.repair,
+            &masses[..repaired.cells],
+            &targets[..repaired.cells],
         ),
     }
 }

@@ -10,16 +10,15 @@
 use std::fs::File;
 use test_support::files::{open_field, read};
 use test_support::output::{STANDARD_OUTPUT, show_refusal};
-use text::Reported;
 
 // Reports a file's bytes in a buffer, and prints the text.
 fn print_report(file: &[u8], out: &mut [u8]) {
     match report::report(file, out) {
-        Reported::Text(k) => {
+        Ok(k) => {
             io::write_all(STANDARD_OUTPUT, &out[..k]);
         }
-        Reported::Refused { number, place } => {
-            show_refusal(number, place);
+        Err(refusal) => {
+            show_refusal(refusal);
         }
     }
 }

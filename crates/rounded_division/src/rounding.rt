@@ -35,6 +35,7 @@ pub fn added_away(rest: Rest) -> u64
 }
 
 // What rounding to nearest adds to the whole part, ties to even.
+#[tactic(auto, unfolding(doubles_spec::specs::Forms::added_nearest))]
 pub fn added_nearest(whole: u64, rest: Rest) -> u64
     ensures { result ≡ added_nearest whole rest }
 {

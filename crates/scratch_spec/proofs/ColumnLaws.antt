@@ -3,23 +3,42 @@ use mathlib.Core.Path.{◌≡◌, refl, sym, ◌∙◌, ap, subst}
 use mathlib.Core.Logic.{◌≢◌}
 use mathlib.Core.Bool.{Bool, true, false}
 use mathlib.Core.List.{List}
-use Prim.Native.Nat.{ℕ, zero, suc, ◌+◌, ◌-◌, ◌*◌, ◌/◌, ◌%◌, ◌^◌, ◌≤◌, ◌<◌}
+use Prim.Native.Nat.{ℕ, zero, suc, ◌+◌, ◌*◌, ◌/◌, ◌%◌, ◌^◌, ◌≤◌, ◌<◌}
 use native.Mathlib.Nat.{add-zero}
 use native.Mathlib.Omega.{arith}
 use native.Mathlib.Numerals.{add-one}
 use native.Mathlib.Decide.{ℕ_discrete, dec_lt}
-use lib.IntN.{ℤ, pos, negsuc, ◌+ℤ◌, ◌-ℤ◌, ◌*ℤ◌}
-use lib.Signed.{mag, shr_z, mag_shr}
+use lib.IntN.{ℤ, pos}
+use lib.Signed.{mag}
 use lib.ListN.{length, set, length-set}
 use lib.Seq.{get_or-set_same, get_or-set_other}
 use mir.Syntax.{w64}
-use mir.Val.{Fits, SFits, to_z, of_z}
-use mir.ValLaws.{to_z_pos, to_z-neg, to_z-Fits, of_z-to_z, of_z_fits}
+use mir.Val.{Fits, to_z, of_z}
+use mir.ValLaws.{of_z-to_z, of_z_fits}
 use Rattle.numbers.specs.Lists.{at_ℤ}
-use Rattle.numbers.specs.Signed.{over}
-use Rattle.numbers.proofs.SignedLaws.{one-part, add_parts, minus-parts, parts-eq, about, read_back}
 use Rattle.numbers.proofs.TestLaws.{clash}
-use Rattle.scratch_spec.specs.Columns.{width, MASS, LOW, offset, half, part, with_half, with_part, Small, Storable, col, num, InRow, Stored, OnlyColumn, Laid}
+use Rattle.scratch_spec.specs.declared.Column.{Column}
+use Rattle.scratch_spec.specs.declared.Column.TheVariants.{Mass, Low, High, Weight, First, Next}
+use Rattle.scratch_spec.specs.Columns.{number_of, width, MASS, LOW, offset, half, part, with_half, with_part, Small, Storable, col, num, InRow, Stored, OnlyColumn, Laid}
+
+-- ---- the columns of the code
+
+pub number-below : (k : Column) → number_of k < 6
+number-below Mass = omega arith
+number-below Low = omega arith
+number-below High = omega arith
+number-below Weight = omega arith
+number-below First = omega arith
+number-below Next = omega arith
+
+-- only Mass has the number of MASS
+pub number-other : (k : Column) → (k ≡ Mass → ⊥) → number_of k ≢ MASS
+number-other Mass n = absurd (n refl)
+number-other Low n = λ e. omega arith
+number-other High n = λ e. omega arith
+number-other Weight n = λ e. omega arith
+number-other First n = λ e. omega arith
+number-other Next n = λ e. omega arith
 
 -- ---- one store
 
@@ -119,66 +138,6 @@ col-natural (suc j) s u n = refl
 pub col-mass : (s : List ℤ) (u : ℕ) → col MASS s u ≡ at_ℤ s (width * u)
 unfolding col
 col-mass s u = ap (at_ℤ s) (add-zero (width * u))
-
--- the parts as the code has them, by cases of k
-pub part_low : (k : ℕ) (z : ℤ) → k ≢ 0 → k < 4 → half 0 (of_z w64 z) ≡ over (part k z)
-part_low zero z n e = absurd (n refl)
-part_low (suc j) z n e = let d : 0 ≡ suc j / 4 = omega arith in ap (λ p. half p (of_z w64 z)) d
-
-pub part-high : (k : ℕ) (z : ℤ) → k < 6 → 4 ≤ k → half 1 (of_z w64 z) ≡ over (part k z)
-part-high zero z b e = absurd (omega arith)
-part-high (suc j) z b e = let d : 1 ≡ suc j / 4 = omega arith in ap (λ p. half p (of_z w64 z)) d
-
--- the bits above the low 32 are the low ones of the number shifted
-shifted-low : (z : ℤ) → mag z < 2 ^ 63 → half 0 (of_z w64 (shr_z z (2 ^ 32))) ≡ half 1 (of_z w64 z)
-shifted-low (pos n) h = omega arith
-shifted-low (negsuc n) h = omega arith
-
--- the same as the machine has it, which reads every number back from its bits
-pub shifted-read : (z : ℤ) → mag z < 2 ^ 63 → half 0 (of_z w64 (to_z w64 (of_z w64 (shr_z (to_z w64 (of_z w64 z)) (2 ^ 32))))) ≡ half 1 (of_z w64 z)
-shifted-read z h =
-    ap (λ y. half 0 (of_z w64 (to_z w64 (of_z w64 (shr_z y (2 ^ 32)))))) (read_back z h)
-    ∙ ap (λ y. half 0 (of_z w64 y)) (read_back (shr_z z (2 ^ 32)) (omega (arith, mag_shr z (2 ^ 32))))
-    ∙ shifted-low z h
-
--- the number with another low half, and with another high half, by sums
-low_sum : (z : ℤ) (v : ℕ) → mag z < 2 ^ 63 → v < 2 ^ 31 → z -ℤ pos (half 0 (of_z w64 z)) +ℤ pos v ≡ to_z w64 (with_half 0 (of_z w64 z) v)
-low_sum (pos n) v h l =
-    let r : ℕ = n % 2 ^ 32 in
-    parts-eq (omega (arith, minus-parts (pos n) (pos r), one-part (pos n -ℤ pos r), add_parts (pos n -ℤ pos r) (pos v)))
-    ∙ sym (to_z_pos w64 (n / 2 ^ 32 * 2 ^ 32 + v) (omega arith))
-low_sum (negsuc n) v h l =
-    let r : ℕ = (2 ^ 64 - suc n) % 2 ^ 32 in
-    let w : ℕ = (2 ^ 64 - suc n) / 2 ^ 32 * 2 ^ 32 + v in
-    let e : 2 ^ 64 - suc (2 ^ 64 - suc w) ≡ w = omega arith in
-    parts-eq (omega (arith, minus-parts (negsuc n) (pos r), one-part (negsuc n -ℤ pos r), add_parts (negsuc n -ℤ pos r) (pos v), one-part (negsuc n -ℤ pos r +ℤ pos v)))
-    ∙ sym (to_z-neg w64 (2 ^ 64 - suc w) (omega arith))
-    ∙ ap (to_z w64) e
-
-high_sum : (z : ℤ) (v : ℕ) → v < 2 ^ 31 → pos v *ℤ pos (2 ^ 32) +ℤ pos (half 0 (of_z w64 z)) ≡ to_z w64 (with_half 1 (of_z w64 z) v)
-high_sum z v l = sym (to_z_pos w64 (v * 2 ^ 32 + of_z w64 z % 2 ^ 32) (omega arith))
-
--- a number without its low half fits, and so does one with another half
-pub low_fits : (z : ℤ) → SFits w64 z → SFits w64 (z -ℤ pos (half 0 (of_z w64 z)))
-low_fits (pos n) f =
-    let r : ℕ = n % 2 ^ 32 in
-    record { sfits = omega (arith, f.sfits, minus-parts (pos n) (pos r), one-part (pos n -ℤ pos r), about (pos n -ℤ pos r)) }
-low_fits (negsuc n) f =
-    let r : ℕ = (2 ^ 64 - suc n) % 2 ^ 32 in
-    let e : negsuc n -ℤ pos r ≡ negsuc (n + r) = parts-eq (omega (arith, minus-parts (negsuc n) (pos r), one-part (negsuc n -ℤ pos r))) in
-    subst (SFits w64) (sym e) (record { sfits = omega (arith, f.sfits) })
-
-pub part-fits : (k : ℕ) (z : ℤ) (v : ℕ) → SFits w64 z → v < 2 ^ 31 → SFits w64 (with_part k z v)
-part-fits zero z v f l = record { sfits = omega arith }
-part-fits (suc j) z v f l = to_z-Fits w64 _ (with-fits (suc j / 4) (of_z w64 z) v (of_z_fits w64 z f).fits l)
-
-pub with-low : (k : ℕ) (z : ℤ) (v : ℕ) → mag z < 2 ^ 63 → v < 2 ^ 31 → k ≢ 0 → k < 4 → z -ℤ pos (half 0 (of_z w64 z)) +ℤ pos v ≡ with_part k z v
-with-low zero z v h l n e = absurd (n refl)
-with-low (suc j) z v h l n e = let d : 0 ≡ suc j / 4 = omega arith in low_sum z v h l ∙ ap (λ p. to_z w64 (with_half p (of_z w64 z) v)) d
-
-pub with-high : (k : ℕ) (z : ℤ) (v : ℕ) → v < 2 ^ 31 → k < 6 → 4 ≤ k → pos v *ℤ pos (2 ^ 32) +ℤ pos (half 0 (of_z w64 z)) ≡ with_part k z v
-with-high zero z v l b e = absurd (omega arith)
-with-high (suc j) z v l b e = let d : 1 ≡ suc j / 4 = omega arith in high_sum z v l ∙ ap (λ p. to_z w64 (with_half p (of_z w64 z) v)) d
 
 -- ---- rows
 

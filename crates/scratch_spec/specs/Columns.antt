@@ -6,6 +6,8 @@ use Rattle.std.specs.Int.{w64}
 use Rattle.std.proofs.Common.{to_z, of_z}
 use Rattle.numbers.specs.Lists.{at_ℤ}
 use Rattle.numbers.specs.Signed.{over}
+use Rattle.scratch_spec.specs.declared.Column.{Column}
+use Rattle.scratch_spec.specs.declared.Column.TheVariants.{Mass, Low, High, Weight, First, Next}
 
 -- the numbers of the scratch that a row takes
 abbrev pub width : ℕ
@@ -29,6 +31,15 @@ FIRST = 4
 
 abbrev pub NEXT : ℕ
 NEXT = 5
+
+-- a column of the code by its number
+abbrev pub number_of : Column → ℕ
+number_of Mass = MASS
+number_of Low = LOW
+number_of High = HIGH
+number_of Weight = WEIGHT
+number_of First = FIRST
+number_of Next = NEXT
 
 -- where in a row column k stands: MASS | LOW, FIRST | HIGH, NEXT | WEIGHT
 abbrev pub offset : ℕ → ℕ

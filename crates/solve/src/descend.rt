@@ -5,10 +5,8 @@ ghost use Rattle.scratch_spec.specs.Columns.{width, FIRST, num};
 ghost use Rattle.qlt_spec.specs.Tree.{Valid};
 ghost use Rattle.solve_spec.specs.Descent.{Linked, SameData, Descending, DownTo, ChildWatched};
 
-use crate::load::wide;
 use crate::whole_tree::Stages;
-use numbers::arith::{magnitude, stored_index};
-use scratch_spec::{FIRST, NEXT};
+use scratch_spec::Column;
 use walks::columns::{get_above, put};
 use walks::group::{split_group, split_watched};
 
@@ -23,13 +21,11 @@ pub fn link(parents: &[u32], m: usize, s: &mut [i64])
     ensures same_data { SameData m s.old s.new }
 {
     let root = m - 1;
-    let mut u = root;
-    while 0 < u {
-        u -= 1;
-        let parent = wide(parents[u]);
-        let first = get_above(s, FIRST, parent);
-        put(s, NEXT, u, first);
-        put(s, FIRST, parent, stored_index(u));
+    for u in (0..root).rev() {
+        let parent = parents[u] as usize;
+        let first = get_above(s, Column::First, parent);
+        put(s, Column::Next, u, first);
+        put(s, Column::First, parent, u as u64);
     }
 }
 
@@ -41,12 +37,10 @@ pub fn descend(parents: &[u32], k: usize, m: usize, s: &mut [i64]) -> u64
     ensures { DownTo (at parents.now) k m s.old s.new result }
 {
     link(parents, m, s);
-    let mut v = m;
     let mut shared: u64 = 0;
-    while k < v {
-        v -= 1;
+    for v in (k..m).rev() {
         let d = split_group(s, m, v);
-        shared += magnitude(d);
+        shared += d.unsigned_abs();
     }
     shared
 }
@@ -57,7 +51,7 @@ pub fn child_stages(parents: &[u32], root: usize, u: usize, s: &mut [i64]) -> St
     requires by_index { (n : ℕ) × Descending (at parents.now) n (root + 1) s.old }
     ensures { ChildWatched (at parents.now) (root + 1) u s.old s.new result.clip result.first result.both }
 {
-    let v = wide(parents[u]);
+    let v = parents[u] as usize;
     descend(parents, v + 1, root + 1, s);
     let watched = split_watched(s, root + 1, v, u);
     Stages {

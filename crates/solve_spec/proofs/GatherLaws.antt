@@ -10,7 +10,7 @@ use native.Mathlib.Decide.{ℕ_discrete, dec_lt}
 use lib.Dec.{leb}
 use lib.IntN.{ℤ, pos, nat_abs, ◌+ℤ◌, ◌-ℤ◌}
 use lib.Signed.{mag}
-use lib.ListN.{length, set, drop, length-drop}
+use lib.ListN.{length, drop, length-drop}
 use lib.Seq.{get_or-drop, ext_get_or}
 use mir.Syntax.{w64}
 use mir.Val.{SFits, to_z, of_z}
@@ -20,7 +20,7 @@ use Rattle.numbers.specs.Sums.{ℕ_adds, ℤ_adds, sum_to}
 use Rattle.numbers.specs.Lists.{at_ℤ, list_to, written}
 use Rattle.numbers.proofs.SignedLaws.{about, minus-parts}
 use Rattle.numbers.proofs.SumLaws.{sum_to-next, sum_to-ext}
-use Rattle.numbers.proofs.ListLaws.{length-list_to, written_none, next-entry}
+use Rattle.numbers.proofs.ListLaws.{length-list_to, get_d-list_to}
 use Rattle.scratch_spec.specs.Columns.{width, MASS, Small, Storable, col, InRow, Stored, OnlyColumn, Laid}
 use Rattle.scratch_spec.proofs.ColumnLaws.{col-natural, in_row, kept-start, kept_on, kept-write, laid-start, laid_next}
 use Rattle.qlt_spec.specs.Tree.{Valid}
@@ -163,16 +163,13 @@ targets-small {b = b} {xs = xs} p h = omega (arith, sum_bound b (λ c. nat_abs (
 
 -- ---- clearing
 
-module _ (s : List ℤ) where
-  -- nothing is cleared yet
-  pub cleared-none : s ≡ cleared 0 s
-  unfolding cleared
-  cleared-none = written_none s 0 (λ i. pos 0)
-
-  -- one number more
-  pub cleared-next : (k : ℕ) → k < length s → set (cleared k s) k (pos 0) ≡ cleared (k + 1) s
-  unfolding cleared
-  cleared-next k l = next-entry s (λ i. pos 0) k l refl refl
+-- k zeros before what lies past the first k numbers
+pub cleared-by : (k : ℕ) (s zeros : List ℤ) → length zeros ≡ k → ((i : ℕ) → i < k → at_ℤ zeros i ≡ pos 0) → zeros ++ drop k s ≡ cleared k s
+unfolding cleared written
+cleared-by k s zeros e h =
+    ap₂ (λ x j. x ++ drop j s)
+    (ext_get_or (pos 0) zeros (list_to k (λ i. pos 0)) (e ∙ sym (length-list_to k _)) (λ i l. h i (omega arith) ∙ sym (get_d-list_to k (λ i. pos 0) i (pos 0) (omega arith))))
+    (omega (arith, length-list_to k (λ (j : ℕ). pos 0)))
 
 -- what lies past the first j numbers goes by the elements from j on
 drop-ext : (j : ℕ) (a b : List ℤ) → length a ≡ length b → ((i : ℕ) → j ≤ i → at_ℤ a i ≡ at_ℤ b i) → drop j a ≡ drop j b

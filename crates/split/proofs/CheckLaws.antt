@@ -1,11 +1,12 @@
--- Laws for Split's checks in code: lengths, chains, and sums that stop at 2 ^ 31. Assumes nothing.
-use mathlib.Core.Path.{◌≡◌, refl, sym, ◌∙◌, ap}
-use mathlib.Core.Bool.{Bool, ◌&&◌}
+-- Laws for Split's checks in code: one item's order, and sums that stop at 2 ^ 31. Assumes nothing.
+use Rattle.std.specs.Prelude.{Ok}
+use mathlib.Core.Path.{◌≡◌, sym, ◌∙◌, ap}
+use mathlib.Core.Bool.{Bool, true, false, ◌&&◌}
 use mathlib.Core.List.{List}
 use Prim.Native.Nat.{ℕ, ◌^◌, ◌≤◌, ◌<◌, min}
 use native.Mathlib.Omega.{arith}
 use native.Mathlib.Decide.{dec_le}
-use lib.Dec.{leb, eqb}
+use lib.Dec.{leb}
 use borrow.Author.Tests.{le-leb, lt-leb}
 use lib.IntN.{ℤ, pos}
 use lib.Signed.{le_z, ◌≤ℤ◌}
@@ -13,26 +14,31 @@ use lib.ListN.{length}
 use mir.Syntax.{w64}
 use mir.Val.{to_z, of_z}
 use mir.ValLaws.{to_z_pos}
-use Rattle.numbers.specs.declared.Checked.TheVariants.{Pass}
 use Rattle.numbers.specs.Lists.{at_ℤ}
 use Rattle.numbers.specs.Signed.{over}
-use Rattle.numbers.specs.Checks.{unless, both, every_from, check_length, max_total}
+use Rattle.numbers.specs.Checks.{every_from, max_total}
 use Rattle.numbers.proofs.TestLaws.{Tested, holds, fails, tested}
-use Rattle.numbers.proofs.CheckLaws.{then-length, every-means}
+use Rattle.numbers.proofs.CheckLaws.{every-means}
 use Rattle.numbers.proofs.SumLaws.{sum_to-over, sum_to-le}
 use Rattle.numbers.proofs.SignedLaws.{signed, from_zero, le_parts, le_z-means}
-use Rattle.caas_spec.specs.Operation.{sum_ℤ, check_lengths, check_split_order, check_highs}
+use Rattle.caas_spec.specs.Operation.{sum_ℤ, ordered_at, check_split_order, check_highs}
 use Rattle.caas_spec.proofs.OperationLaws.{split-order-decides, highs-decides}
 use Rattle.split.specs.Sums.{sum_over, NonNegative, Summable}
 
--- four lengths, each checked with the number 3, are one check of all
-pub lengths-is : (n l h w m : ℕ) → both (check_length l n) (both (check_length h n) (both (check_length w n) (check_length m n))) ≡ check_lengths n l h w m
-unfolding check_lengths
-lengths-is n l h w m =
-    then-length l n _ _ (then-length h n _ _ (then-length w n _ _ last))
-  where
-    last : check_length m n ≡ unless (eqb m n) 3 0
-    last = unfold check_length in refl
+-- what `&&` computes, by its first test
+pub and_then : {a b v : Bool} → a ≡ true → v ≡ b → v ≡ a && b
+and_then t e = rw t e
+
+pub and_else : {a : Bool} (b : Bool) {v : Bool} → a ≡ false → v ≡ a → v ≡ a && b
+and_else b f e = rw f (e ∙ f)
+
+-- the test of one item's order as the code computes it, by whether its low is below 0
+module _ (lows highs : List ℤ) (u : ℕ) {x : ℤ} {v : Bool} (low : x ≡ at_ℤ lows u) where
+  pub ordered_then : {y : ℤ} → y ≡ at_ℤ highs u → le_z (pos 0) x ≡ true → v ≡ le_z x y → v ≡ ordered_at lows highs u
+  ordered_then high t e = e ∙ sym (ap (λ z. le_z (pos 0) z && le_z z (at_ℤ highs u)) (sym low) ∙ rw (t, high))
+
+  pub ordered_else : le_z (pos 0) x ≡ false → v ≡ le_z (pos 0) x → v ≡ ordered_at lows highs u
+  ordered_else f e = e ∙ f ∙ sym (ap (λ z. le_z (pos 0) z && le_z z (at_ℤ highs u)) (sym low) ∙ rw f)
 
 -- the sum of numbers none of which is below 0
 pub sum_is : (xs : List ℤ) → NonNegative xs → sum_ℤ (length xs) xs ≡ pos (sum_over xs)
@@ -71,7 +77,7 @@ read-sum xs r z h e f =
 
 -- ---- what checks that passed leave to those after them
 
-module _ (lows highs : List ℤ) (same : length highs ≡ length lows) (passed : check_split_order (length lows) lows highs ≡ Pass) where
+module _ (lows highs : List ℤ) (same : length highs ≡ length lows) (passed : check_split_order (length lows) lows highs ≡ Ok tt) where
   ordered : (u : ℕ) → u < length lows → (pos 0 ≤ℤ at_ℤ lows u) × (at_ℤ lows u ≤ℤ at_ℤ highs u)
   ordered = (split-order-decides (length lows) lows highs).passes.0 passed
 
@@ -81,7 +87,7 @@ module _ (lows highs : List ℤ) (same : length highs ≡ length lows) (passed :
   pub highs-nonnegative : NonNegative highs
   highs-nonnegative = record { at = λ u l. let o = ordered u (omega arith) in omega (signed, le_parts o.0, le_parts o.1) }
 
-  pub highs-summable : check_highs (length highs) highs ≡ Pass → Summable highs
+  pub highs-summable : check_highs (length highs) highs ≡ Ok tt → Summable highs
   highs-summable e = record { each = highs-nonnegative; sum = (highs-decides (length highs) highs).passes.0 e }
 
   pub lows-summable : Summable highs → Summable lows

@@ -4,7 +4,7 @@
 
 ghost use Rattle.caas_spec.specs.Operation.{split_call, SplitContract};
 
-use caas_spec::SplitAnswer;
+use numbers::Refusal;
 
 mod verdict;
 mod work;
@@ -18,22 +18,13 @@ pub fn split(
     weights: &[i64],
     total: i64,
     masses: &mut [i64],
-) -> SplitAnswer
+) -> Result<i64, Refusal>
     ensures { SplitContract
         (split_call targets.now lows.now highs.now weights.now total masses.old) result
         masses.new }
 {
-    let verdict = verdict::verdict(targets, lows, highs, weights, total, masses);
+    verdict::verdict(targets, lows, highs, weights, total, masses)?;
     // a row for each of 512 items, and one for the total
     let mut scratch = [0i64; 2052];
-    work::split_by(
-        verdict,
-        targets,
-        lows,
-        highs,
-        weights,
-        total,
-        masses,
-        &mut scratch,
-    )
+    Ok(work::split_items(targets, lows, highs, weights, total, masses, &mut scratch))
 }

@@ -6,69 +6,46 @@ ghost use Rattle.numbers.specs.Checks.{first, every_from, max_total};
 ghost use Rattle.split.specs.Sums.{sum_over, NonNegative, Summable};
 ghost use Rattle.caas_spec.specs.Operation.{ordered_at, check_lengths, check_split_order, check_highs, check_weights, check_split_reach, split_shape_checks, split_value_checks, split_verdict, split_call};
 
-use numbers::Checked;
-use numbers::arith::{at_most, signed};
-use numbers::checks::{and, check_count, check_length, fail_at, then, unless};
+use numbers::Refusal;
+use numbers::arith::signed;
+use numbers::checks::{check_count, unless};
 use numbers::lists::sum_above;
 
 // 3: lists of other lengths.
-fn check_lengths(n: usize, lows: usize, highs: usize, weights: usize, masses: usize) -> Checked
+#[tactic(auto, unfolding(caas_spec::specs::Operation::check_lengths))]
+fn check_lengths(
+    n: usize,
+    lows: usize,
+    highs: usize,
+    weights: usize,
+    masses: usize,
+) -> Result<(), Refusal>
     ensures { result ≡ check_lengths n lows highs weights masses }
 {
-    then(
-        check_length(lows, n),
-        then(
-            check_length(highs, n),
-            then(check_length(weights, n), check_length(masses, n)),
-        ),
-    )
-}
-
-fn is_ordered(low: i64, high: i64) -> bool
-    ensures { result ≡ le_z (pos 0) low && le_z low high }
-{
-    and(0 <= low, low <= high)
-}
-
-fn ordered_at(lows: &[i64], highs: &[i64], u: usize) -> bool
-    requires { (u < length lows.now) × (u < length highs.now) }
-    ensures { result ≡ ordered_at lows.now highs.now u }
-{
-    is_ordered(lows[u], highs[u])
+    unless(lows == n && highs == n && weights == n && masses == n, 3, 0)
 }
 
 // 5: the first item with low below 0 or above high.
-fn check_order(lows: &[i64], highs: &[i64]) -> Checked
+fn check_order(lows: &[i64], highs: &[i64]) -> Result<(), Refusal>
     requires { (length highs.now ≡ length lows.now) × (length lows.now ≤ 512) }
     ensures { result ≡ check_split_order (length lows.now) lows.now highs.now }
 {
-    let mut u: usize = 0;
-    while u < lows.len() {
-        if !ordered_at(lows, highs, u) {
-            return fail_at(5, u);
+    for (u, low) in lows.iter().enumerate() {
+        if !(0 <= *low && *low <= highs[u]) {
+            return Err(Refusal::at(5, u));
         }
-        u += 1;
     }
-    Checked::Pass
-}
-
-fn nonnegative_at(xs: &[i64], u: usize) -> bool
-    requires { u < length xs.now }
-    ensures { result ≡ le_z (pos 0) (at_ℤ xs.now u) }
-{
-    at_most(0, xs[u])
+    Ok(())
 }
 
 // No number of a list is below 0.
 fn all_nonnegative(xs: &[i64]) -> bool
     ensures { result ≡ every_from (λ u. le_z (pos 0) (at_ℤ xs.now u)) 0 (length xs.now) }
 {
-    let mut u: usize = 0;
-    while u < xs.len() {
-        if !nonnegative_at(xs, u) {
+    for x in xs {
+        if *x < 0 {
             return false;
         }
-        u += 1;
     }
     true
 }
@@ -81,7 +58,7 @@ fn sum_fits(xs: &[i64]) -> bool
 }
 
 // 6: highs adding to over that, where none is below 0.
-fn check_highs(highs: &[i64]) -> Checked
+fn check_highs(highs: &[i64]) -> Result<(), Refusal>
     requires { NonNegative highs.now }
     ensures { result ≡ check_highs (length highs.now) highs.now }
 {
@@ -89,54 +66,36 @@ fn check_highs(highs: &[i64]) -> Checked
 }
 
 // 7: a weight below 0, or weights adding to over that.
-fn check_weights(weights: &[i64]) -> Checked
+fn check_weights(weights: &[i64]) -> Result<(), Refusal>
     ensures { result ≡ check_weights (length weights.now) weights.now }
 {
-    unless(and(all_nonnegative(weights), sum_fits(weights)), 7, 0)
+    unless(all_nonnegative(weights) && sum_fits(weights), 7, 0)
 }
 
 // 8: the total outside the sums of lows and highs, where none is below 0 and the sums fit.
-fn check_reach(lows: &[i64], highs: &[i64], total: i64) -> Checked
+fn check_reach(lows: &[i64], highs: &[i64], total: i64) -> Result<(), Refusal>
     requires summable { Summable lows.now × Summable highs.now }
     requires highs_len { length highs.now ≡ length lows.now }
     ensures { result ≡ check_split_reach (length lows.now) lows.now highs.now total }
 {
     let low = signed(sum_above(lows));
     let high = signed(sum_above(highs));
-    unless(and(at_most(low, total), at_most(total, high)), 8, 0)
-}
-
-// 1 and 3: of lengths alone.
-fn shape_checks(n: usize, lows: usize, highs: usize, weights: usize, masses: usize) -> Checked
-    ensures { result ≡ first (split_shape_checks n lows highs weights masses) }
-{
-    then(
-        check_count(n),
-        check_lengths(n, lows, highs, weights, masses),
-    )
+    unless(low <= total && total <= high, 8, 0)
 }
 
 // 5 to 8.
-fn value_checks(lows: &[i64], highs: &[i64], weights: &[i64], total: i64) -> Checked
+fn value_checks(lows: &[i64], highs: &[i64], weights: &[i64], total: i64) -> Result<(), Refusal>
     requires { (length lows.now ≤ 512) × (length highs.now ≡ length lows.now) × (length weights.now ≡ length lows.now) }
     ensures { result ≡ first (split_value_checks (length lows.now) lows.now highs.now weights.now total) }
 {
-    let order = check_order(lows, highs);
-    if let Checked::Fail { number, place } = order {
-        return Checked::Fail { number, place };
-    }
-    let high = check_highs(highs);
-    if let Checked::Fail { number, place } = high {
-        return Checked::Fail { number, place };
-    }
-    let weight = check_weights(weights);
-    if let Checked::Fail { number, place } = weight {
-        return Checked::Fail { number, place };
-    }
+    check_order(lows, highs)?;
+    check_highs(highs)?;
+    check_weights(weights)?;
     check_reach(lows, highs, total)
 }
 
 // All of Split's checks, in 01's order.
+#[tactic(auto, unfolding(caas_spec::specs::Operation::split_verdict))]
 pub fn verdict(
     targets: &[i64],
     lows: &[i64],
@@ -144,19 +103,12 @@ pub fn verdict(
     weights: &[i64],
     total: i64,
     masses: &[i64],
-) -> Checked
+) -> Result<(), Refusal>
     ensures { result ≡ split_verdict
         (split_call targets.now lows.now highs.now weights.now total masses.now) }
 {
-    let shape = shape_checks(
-        targets.len(),
-        lows.len(),
-        highs.len(),
-        weights.len(),
-        masses.len(),
-    );
-    if let Checked::Fail { number, place } = shape {
-        return Checked::Fail { number, place };
-    }
+    let n = targets.len();
+    check_count(n)?;
+    check_lengths(n, lows.len(), highs.len(), weights.len(), masses.len())?;
     value_checks(lows, highs, weights, total)
 }

@@ -1,26 +1,22 @@
 // The split of a call's items in a lent scratch: the columns from the lists, one chain through all items, the walks, and the masses out.
 ghost use Rattle.std.specs.Prelude.{◌≡◌, true, ℕ, ◌+◌, ◌*◌, ◌≤◌, ◌<◌, pos, length};
 ghost use Rattle.numbers.specs.Lists.{at_ℤ, list_to};
-ghost use Rattle.caas_spec.specs.Operation.{split_call, split_masses, split_deficit, split_verdict, SplitFits, SplitContract};
+ghost use Rattle.caas_spec.specs.Operation.{split_call, split_masses, split_deficit, SplitFits};
 ghost use Rattle.split.specs.Items.{AllStorable, ItemsLoaded};
-ghost use Rattle.scratch_spec.specs.Columns.{width, MASS, NEXT, Storable, num, Laid};
+ghost use Rattle.scratch_spec.specs.Columns.{number_of, width, MASS, NEXT, Storable, num, Laid};
 
-use caas_spec::SplitAnswer;
-use numbers::Checked;
-use numbers::arith::{above, stored_index};
-use scratch_spec::{FIRST, HIGH, LOW, MASS, NEXT, WEIGHT};
+use numbers::arith::{above, signed};
+use scratch_spec::Column;
 use walks::columns::{get_above, put, put_signed};
 use walks::group::split_group;
 
 // A column of the first rows, from a list.
-fn fill(s: &mut [i64], k: usize, xs: &[i64])
-    requires { (k < 6) × (width * length xs.now ≤ length s.old) × ((u : ℕ) → u < length xs.now → Storable k (at_ℤ xs.now u)) }
-    ensures { Laid k (length xs.now) (λ u. true) (at_ℤ xs.now) (length xs.now) s.old s.new }
+fn fill(s: &mut [i64], column: Column, xs: &[i64])
+    requires { (width * length xs.now ≤ length s.old) × ((u : ℕ) → u < length xs.now → Storable (number_of column) (at_ℤ xs.now u)) }
+    ensures { Laid (number_of column) (length xs.now) (λ u. true) (at_ℤ xs.now) (length xs.now) s.old s.new }
 {
-    let mut u: usize = 0;
-    while u < xs.len() {
-        put_signed(s, k, u, xs[u]);
-        u += 1;
+    for (u, x) in xs.iter().enumerate() {
+        put_signed(s, column, u, *x);
     }
 }
 
@@ -29,10 +25,8 @@ fn link(s: &mut [i64], n: usize)
     requires { (n ≤ 512) × (width * n ≤ length s.old) }
     ensures { Laid NEXT n (λ u. true) (λ u. pos (u + 1)) n s.old s.new }
 {
-    let mut u: usize = 0;
-    while u < n {
-        put(s, NEXT, u, stored_index(u + 1));
-        u += 1;
+    for u in 0..n {
+        put(s, Column::Next, u, u as u64 + 1);
     }
 }
 
@@ -41,11 +35,8 @@ fn copy_masses(s: &[i64], masses: &mut [i64])
     requires { width * length masses.old ≤ length s.now }
     ensures { masses.new ≡ list_to (length masses.old) (λ u. pos (num MASS s.now u)) }
 {
-    let mut u: usize = 0;
-    while u < masses.len() {
-        let x = get_above(s, MASS, u);
-        numbers::lists::put(masses, u, x);
-        u += 1;
+    for (u, mass) in masses.iter_mut().enumerate() {
+        *mass = signed(get_above(s, Column::Mass, u));
     }
 }
 
@@ -57,17 +48,17 @@ fn load(targets: &[i64], lows: &[i64], highs: &[i64], weights: &[i64], total: i6
     requires all_storable { AllStorable lows.now × AllStorable highs.now × AllStorable weights.now }
     ensures { ItemsLoaded targets.now lows.now highs.now weights.now total s.new }
 {
-    fill(s, MASS, targets);
-    fill(s, LOW, lows);
-    fill(s, HIGH, highs);
-    fill(s, WEIGHT, weights);
+    fill(s, Column::Mass, targets);
+    fill(s, Column::Low, lows);
+    fill(s, Column::High, highs);
+    fill(s, Column::Weight, weights);
     link(s, targets.len());
-    put(s, FIRST, targets.len(), 0);
-    put(s, MASS, targets.len(), above(total));
+    put(s, Column::First, targets.len(), 0);
+    put(s, Column::Mass, targets.len(), above(total));
 }
 
 // The masses of a call that has passed its checks; gives 01's d.
-fn split_items(
+pub fn split_items(
     targets: &[i64],
     lows: &[i64],
     highs: &[i64],
@@ -88,28 +79,4 @@ fn split_items(
     let deficit = split_group(s, n, n);
     copy_masses(s, masses);
     deficit
-}
-
-// What a call leaves and answers, by its verdict: a refused one leaves the masses as they were.
-pub fn split_by(
-    verdict: Checked,
-    targets: &[i64],
-    lows: &[i64],
-    highs: &[i64],
-    weights: &[i64],
-    total: i64,
-    masses: &mut [i64],
-    s: &mut [i64],
-) -> SplitAnswer
-    requires verdict_value { verdict ≡ split_verdict (split_call targets.now lows.now highs.now weights.now total masses.old) }
-    requires width_in_bounds { width * 512 + width ≤ length s.old }
-    ensures { SplitContract
-        (split_call targets.now lows.now highs.now weights.now total masses.old) result
-        masses.new }
-{
-    if let Checked::Fail { number, place } = verdict {
-        return SplitAnswer::Refused { number, place };
-    }
-    let deficit = split_items(targets, lows, highs, weights, total, masses, s);
-    SplitAnswer::Done { deficit }
 }

@@ -4,20 +4,25 @@
 // highs, weights and masses (below 0 is taken as 0, above 600 as 600) and the total; then come the targets, lows, highs and weights.
 // Before the call each mass is 7. A line has `done` with d, or `refused` with number and place, and then the masses as the call left them:
 // up to 16 of them, or of more their sum and a check number. The cases end with the input, of which at most 65,536 bytes are read.
-// Relies on `split`, which it tests, `caas_spec` for the answer, `test_support`, `numbers`, and the kit's `io`.
+// Relies on `split`, which it tests, `test_support`, `numbers`, and the kit's `io`.
 #![tactic(auto)]
 
 ghost use Rattle.std.specs.Prelude.{◌+◌, ◌≤◌, length};
 
-use caas_spec::SplitAnswer;
 use input::Case;
-use test_support::input::{STANDARD_INPUT, later, skip};
+use numbers::Refusal;
+use output::Masses;
+use std::fmt;
+use std::fmt::Write;
+use test_support::input::STANDARD_INPUT;
+use test_support::output::Output;
+use test_support::reader::Reader;
 
 mod input;
 mod output;
 
 // Calls Split on the lists of a case, which stand in `values` one behind the other.
-fn call(case: Case, values: &[i64], masses: &mut [i64]) -> SplitAnswer
+fn call(case: Case, values: &[i64], masses: &mut [i64]) -> Result<i64, Refusal>
     requires { case.targets + case.lows + case.highs + case.weights ≤ length values.now }
 {
     let low = case.targets;
@@ -25,7 +30,7 @@ fn call(case: Case, values: &[i64], masses: &mut [i64]) -> SplitAnswer
     let weight = high + case.highs;
     let end = weight + case.weights;
     split::split(
-        &values[0..low],
+        &values[..low],
         &values[low..high],
         &values[high..weight],
         &values[weight..end],
@@ -34,40 +39,36 @@ fn call(case: Case, values: &[i64], masses: &mut [i64]) -> SplitAnswer
     )
 }
 
-// Calls Split and prints the line of the case.
-fn run_lists(case: Case, values: &[i64], masses: &mut [i64])
-    requires weights_in_bounds { case.targets + case.lows + case.highs + case.weights ≤ length values.now }
-    requires masses_in_bounds { case.masses ≤ length masses.old }
-{
-    let n = case.masses;
-    let answer = call(case, values, &mut masses[0..n]);
-    output::show(answer, &masses[0..n]);
-}
-
-// Runs the case that starts at `at`. Returns where the next may start.
-fn run_case(text: &[u8], at: usize) -> usize
-    requires { at ≤ length text.now }
-{
-    let case = input::read_case(text, at);
+// Runs the case that stands next, and prints its line.
+fn run_case(reader: &mut Reader) -> fmt::Result {
+    let case = input::read_case(reader);
     let n = case.targets + case.lows + case.highs + case.weights;
     let mut values = [0i64; 2400];
-    let next = input::fill(text, case.next, n, &mut values);
-    let mut masses = [7i64; 600];
-    run_lists(case, &values, &mut masses);
-    skip(text, next)
+    input::fill(reader, &mut values[..n]);
+    reader.skip();
+    let mut space = [7i64; 600];
+    let masses = &mut space[..case.masses];
+    match call(case, &values, masses) {
+        Ok(deficit) => writeln!(Output, "done {deficit}{}", Masses(masses)),
+        Err(refusal) => writeln!(Output, "{refusal}{}", Masses(masses)),
+    }
 }
 
-// Runs all cases. Each takes at least a byte, so that the loop ends whatever the bytes are.
-fn run_all(text: &[u8]) {
-    let mut at = skip(text, 0);
-    while at < text.len() {
-        at = later(at + 1, run_case(text, at));
+// Runs the cases of a text. There are no more of them than bytes.
+fn run_all(text: &[u8]) -> fmt::Result {
+    let mut reader = Reader::new(text);
+    for _ in 0..text.len() {
+        if !reader.begin_case() {
+            break;
+        }
+        run_case(&mut reader)?;
     }
+    Ok(())
 }
 
 // Reads the input, and runs its cases.
 fn main() {
     let mut space = io::large_buffer();
     let n = io::read_full(STANDARD_INPUT, &mut space);
-    run_all(&space[..n]);
+    let _ = run_all(&space[..n]);
 }

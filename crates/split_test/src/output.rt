@@ -1,74 +1,48 @@
-// What a call answered, and the masses after it, as a line of text.
+// What a call answered, and the masses after it, as text.
 ghost use Rattle.std.specs.Prelude.{◌<◌};
 
-use caas_spec::SplitAnswer;
-use numbers::arith::{is_negative, magnitude};
 use numbers::lists::sum_above;
-use test_support::output::{STANDARD_OUTPUT, end_line, print_named, print_refusal, print_signed};
-
-// Each number of a list.
-fn print_masses(xs: &[i64]) {
-    let mut i: usize = 0;
-    while i < xs.len() {
-        print_signed(xs[i]);
-        i += 1;
-    }
-}
+use std::fmt;
 
 // A number modulo 1000000007.
 fn residue(x: i64) -> u64
     ensures { result < 1000000007 }
 {
-    let left = magnitude(x) % 1000000007;
-    if is_negative(x) {
-        return (1000000007 - left) % 1000000007;
+    let left = x.unsigned_abs() % 1000000007;
+    if x < 0 {
+        (1000000007 - left) % 1000000007
+    } else {
+        left
     }
-    left
-}
-
-// The check number with one mass more, at a place counted from 1.
-fn weighed(check: u64, place: usize, x: i64) -> u64
-    requires { check < 1000000007 }
-    ensures { result < 1000000007 }
-{
-    (check + place as u64 % 1000000007 * residue(x)) % 1000000007
 }
 
 // The check number: the sum of each mass times its place, counted from 1, modulo 1000000007.
 fn check_number(xs: &[i64]) -> u64 {
     let mut check: u64 = 0;
-    let mut i: usize = 0;
-    while i < xs.len() {
-        check = weighed(check, i + 1, xs[i]);
-        i += 1;
+    for (i, x) in xs.iter().enumerate() {
+        check = (check % 1000000007 + (i as u64 % 1000000007 + 1) * residue(*x)) % 1000000007;
     }
     check
 }
 
-// The sum of what the masses have above 0, or 2 ^ 31 if that is less, and the check number, which counts masses below 0 too.
-fn print_check(xs: &[i64]) {
-    print_named(b" sum", sum_above(xs));
-    print_named(b" check", check_number(xs));
-}
+// Masses as a line has them: up to 16, or of more the sum of what they have above 0, or 2 ^ 31 if that is less, and the check number, which counts
+// masses below 0 too.
+#[derive(Clone, Copy)]
+pub struct Masses<'a>(pub &'a [i64]);
 
-// The answer: done with d, or the refusal's number and place.
-fn print_answer(answer: SplitAnswer) {
-    match answer {
-        SplitAnswer::Done { deficit } => {
-            io::write_all(STANDARD_OUTPUT, b"done");
-            print_signed(deficit);
+impl<'a> fmt::Display for Masses<'a> {
+    fn fmt<W: fmt::Write>(&self, f: &mut fmt::Formatter<W>) -> fmt::Result {
+        if 16 < self.0.len() {
+            return write!(
+                f,
+                " sum {} check {}",
+                sum_above(self.0),
+                check_number(self.0)
+            );
         }
-        SplitAnswer::Refused { number, place } => print_refusal(number, place),
+        for x in self.0 {
+            write!(f, " {x}")?;
+        }
+        Ok(())
     }
-}
-
-// The line of a case: the answer, and up to 16 masses, or the check of more.
-pub fn show(answer: SplitAnswer, masses: &[i64]) {
-    print_answer(answer);
-    if 16 < masses.len() {
-        print_check(masses);
-    } else {
-        print_masses(masses);
-    }
-    end_line();
 }

@@ -1,14 +1,7 @@
 // Books for steps.
 use book::start_book;
-use book_spec::BookStarted;
 
-// Starts a book from a total, and gives its length.
+// Starts a book from a total, and gives its length, or 0 if that is refused.
 pub fn start(total: u32, book: &mut [u8]) -> usize {
-    match start_book(total, book) {
-        BookStarted::Length(length) => length,
-        BookStarted::Refused {
-            number: _,
-            place: _,
-        } => 0,
-    }
+    start_book(total, book).unwrap_or(0)
 }

@@ -10,7 +10,7 @@ pub struct Drawn {
 
 // The state after another.
 fn next(x: u32) -> u32 {
-    ((x as u64 * 1103515245 + 12345) % 2147483648) as u32
+    ((u64::from(x) * 1103515245 + 12345) % 2147483648) as u32
 }
 
 // Draws a number below k.
@@ -28,14 +28,6 @@ pub fn draw(state: u32, k: u32) -> Drawn
 // One more. Counters and totals stay below 1000000000.
 pub fn more(x: u32) -> u32 {
     x % 1000000000 + 1
-}
-
-// What the first of two numbers is above the second, or 0.
-pub fn short(a: u32, b: u32) -> u32 {
-    if a < b {
-        return 0;
-    }
-    a - b
 }
 
 // The signed difference of two numbers.

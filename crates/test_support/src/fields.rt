@@ -1,7 +1,7 @@
 // Fields for steps: cells drawn around kept masses, and three trees over 8 cells.
 ghost use Rattle.std.specs.Prelude.{◌<◌, ◌≤◌};
 
-use crate::draws::{draw, less, short};
+use crate::draws::{draw, less};
 
 // What is drawn for one cell, and the generator's state behind it.
 #[derive(Clone, Copy)]
@@ -24,14 +24,14 @@ fn draw_cell(state: u32, kept: u32) -> Cell {
     let safe_below = draw(over.state, 300);
     let safe_over = draw(safe_below.state, 300);
     let weight = draw(safe_over.state, 4);
-    let low = short(mass, below.value);
+    let low = mass.saturating_sub(below.value);
     let high = mass + over.value;
     Cell {
         state: weight.state,
         target: less(mass + target.value, 100),
         low,
         high,
-        safe_low: short(low, safe_below.value),
+        safe_low: low.saturating_sub(safe_below.value),
         safe_high: high + safe_over.value,
         weight: weight.value,
     }
@@ -49,18 +49,15 @@ pub fn fill(
     weights: &mut [u32; 8],
 ) -> u32 {
     let mut next = state;
-    let mut i: usize = 0;
-    while i < 8 {
-        let cell = draw_cell(next, kept[i]);
-        let target = cell.target;
-        targets[i] = target;
+    for (i, mass) in kept.iter().enumerate() {
+        let cell = draw_cell(next, *mass);
+        targets[i] = cell.target;
         lows[i] = cell.low;
         highs[i] = cell.high;
         safe_lows[i] = cell.safe_low;
         safe_highs[i] = cell.safe_high;
         weights[i] = cell.weight;
         next = cell.state;
-        i += 1;
     }
     next
 }
@@ -115,9 +112,7 @@ fn parent(kind: u32, broken: bool, v: u32) -> u32 {
 
 // Writes the parents of the tree of a kind.
 pub fn fill_parents(kind: u32, broken: bool, parents: &mut [u32; 15]) {
-    let mut v: u32 = 0;
-    while v < 15 {
-        parents[v as usize] = parent(kind, broken, v);
-        v += 1;
+    for (v, above) in parents.iter_mut().enumerate() {
+        *above = parent(kind, broken, v as u32);
     }
 }

@@ -3,7 +3,7 @@
 // 0 and takes no byte.
 ghost use Rattle.std.specs.Prelude.{◌≤◌, ◌<◌, length};
 
-use numbers::arith::{difference, signed, smaller};
+use numbers::arith::{difference, signed};
 
 // The descriptor of standard input.
 pub const STANDARD_INPUT: i32 = 0;
@@ -22,11 +22,6 @@ pub struct SignedNumber {
     pub next: usize,
 }
 
-// Whether a byte is a digit.
-fn is_digit(b: u8) -> bool {
-    b'0' <= b && b <= b'9'
-}
-
 // Whether a byte stands between numbers.
 fn is_separator(b: u8) -> bool {
     b == b' ' || b == b'\n'
@@ -34,7 +29,11 @@ fn is_separator(b: u8) -> bool {
 
 // Whether a byte is a digit, or, if `digits` is false, a separator.
 fn is_of(digits: bool, b: u8) -> bool {
-    if digits { is_digit(b) } else { is_separator(b) }
+    if digits {
+        b.is_ascii_digit()
+    } else {
+        is_separator(b)
+    }
 }
 
 // The first position from `at` on that has no digit, or, if `digits` is false, no separator.
@@ -42,14 +41,12 @@ fn past(digits: bool, text: &[u8], at: usize) -> usize
     requires { at ≤ length text.now }
     ensures { (at ≤ result) × (result ≤ length text.now) }
 {
-    let mut i = at;
-    while i < text.len() {
+    for i in at..text.len() {
         if !is_of(digits, text[i]) {
             return i;
         }
-        i += 1;
     }
-    i
+    text.len()
 }
 
 // The first position from `at` on that has no separator.
@@ -65,29 +62,17 @@ fn past_sign(text: &[u8], at: usize) -> usize
     requires { at ≤ length text.now }
     ensures { (at ≤ result) × (result ≤ length text.now) }
 {
-    if at < text.len() {
-        if text[at] == b'-' {
-            return at + 1;
-        }
+    if at < text.len() && text[at] == b'-' {
+        return at + 1;
     }
     at
-}
-
-// The later of two positions.
-pub fn later(a: usize, b: usize) -> usize
-    ensures { a ≤ result }
-{
-    if a < b { b } else { a }
 }
 
 // What a digit stands for.
 fn digit(b: u8) -> u64
     ensures { result < 256 }
 {
-    if b < b'0' {
-        return 0;
-    }
-    (b - b'0') as u64
+    u64::from(b.saturating_sub(b'0'))
 }
 
 // A number with one digit more, or 2 ^ 64 - 1 if that is less.
@@ -103,10 +88,8 @@ fn grown(value: u64, last: u64) -> u64
 // What digits stand for, or 2 ^ 64 - 1 if that is less.
 fn value_of(digits: &[u8]) -> u64 {
     let mut value: u64 = 0;
-    let mut i: usize = 0;
-    while i < digits.len() {
-        value = grown(value, digit(digits[i]));
-        i += 1;
+    for b in digits {
+        value = grown(value, digit(*b));
     }
     value
 }
@@ -124,7 +107,7 @@ fn with_sign(negative: bool, size: u64) -> i64 {
     if negative {
         return negated(size);
     }
-    signed(smaller(size, 9223372036854775807))
+    signed(size.min(9223372036854775807))
 }
 
 // The unsigned number whose digits start at `first`.
@@ -162,5 +145,5 @@ pub fn read_signed(text: &[u8], at: usize) -> SignedNumber
 
 // A number as one of 32 bits, or the end of that range if the number is beyond it.
 pub fn word(x: u64) -> u32 {
-    smaller(x, 4294967295) as u32
+    x.min(4294967295) as u32
 }

@@ -3,7 +3,7 @@
 ghost use Rattle.std.specs.Prelude.{◌≤◌, length};
 
 use crate::input::read_signed;
-use numbers::arith::{above, larger};
+use numbers::arith::above;
 
 // How many numbers of a run are left, the number, and the position behind the run.
 #[derive(Clone, Copy)]
@@ -15,13 +15,7 @@ struct Run {
 
 // The number as a target, or the end of that range if the number is beyond it.
 pub fn target(x: i64) -> i32 {
-    if x < -2147483648 {
-        return -2147483648;
-    }
-    if 2147483647 < x {
-        return 2147483647;
-    }
-    x as i32
+    x.max(-2147483648).min(2147483647) as i32
 }
 
 // The number as an unsigned one of 32 bits, or the end of that range if the number is beyond it.
@@ -44,7 +38,7 @@ fn taken(text: &[u8], left: u64, value: i64, next: usize) -> Run
     let count = read_signed(text, next);
     let number = read_signed(text, count.next);
     Run {
-        left: larger(above(count.value), 1) - 1,
+        left: above(count.value).max(1) - 1,
         value: number.value,
         next: number.next,
     }
@@ -58,14 +52,12 @@ pub fn fill_targets(text: &[u8], at: usize, n: usize, xs: &mut [i32]) -> usize
     let mut left: u64 = 0;
     let mut value: i64 = 0;
     let mut next = at;
-    let mut i: usize = 0;
-    while i < n {
+    for i in 0..n {
         let run = taken(text, left, value, next);
         left = run.left;
         value = run.value;
         next = run.next;
         xs[i] = target(value);
-        i += 1;
     }
     next
 }
@@ -78,14 +70,12 @@ pub fn fill(text: &[u8], at: usize, xs: &mut [u32], start: usize, end: usize) ->
     let mut left: u64 = 0;
     let mut value: i64 = 0;
     let mut next = at;
-    let mut i = start;
-    while i < end {
+    for i in start..end {
         let run = taken(text, left, value, next);
         left = run.left;
         value = run.value;
         next = run.next;
         xs[i] = word(value);
-        i += 1;
     }
     next
 }

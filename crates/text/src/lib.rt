@@ -3,11 +3,4 @@
 // text to its front. None of them is an operation. Relies on `numbers`.
 #![tactic(auto)]
 
-// The text's length, the text being written; or the refusal of a list that is shorter than the room asked for.
-#[derive(Clone, Copy)]
-pub enum Reported {
-    Text(usize),
-    Refused { number: u32, place: u32 },
-}
-
 pub mod pieces;

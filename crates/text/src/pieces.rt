@@ -3,9 +3,7 @@ ghost use Rattle.std.specs.Prelude.{◌+◌, ◌≤◌, ◌<◌, ◌^◌, length
 ghost use Rattle.text.specs.Text.{Put, digits_of, number, signed_number, named, named_signed, refusal_text};
 ghost use Rattle.text.specs.Reports.{Reports};
 
-use crate::Reported;
-use numbers::Checked;
-use numbers::arith::magnitude;
+use numbers::Refusal;
 use numbers::checks::check_long;
 
 // Puts the bytes of a word.
@@ -47,7 +45,7 @@ pub fn put_signed(out: &mut [u8], at: usize, z: i64, after: u8) -> usize
     requires { at + 22 ≤ length out.old }
     ensures { Put out.old out.new at result (signed_number z after) × (result ≤ at + 22) }
 {
-    let k = magnitude(z);
+    let k = z.unsigned_abs();
     if z < 0 {
         out[at] = 45;
         return put_number(out, at + 1, k, after);
@@ -74,22 +72,19 @@ pub fn put_named_signed(out: &mut [u8], at: usize, word: &[u8], z: i64, after: u
 }
 
 // Puts a refusal at the start of a list, and the byte `after`.
-pub fn put_refusal(out: &mut [u8], number: u32, place: u32, after: u8) -> usize
+pub fn put_refusal(out: &mut [u8], refusal: Refusal, after: u8) -> usize
     requires { 64 ≤ length out.old }
-    ensures { Put out.old out.new 0 result (refusal_text number place after) × (result ≤ 64) }
+    ensures { Put out.old out.new 0 result (refusal_text refusal.number refusal.place after) × (result ≤ 64) }
 {
-    let a = put_named(out, 0, b"refused ", number as u64, b' ');
-    put_number(out, a, place as u64, after)
+    let a = put_named(out, 0, b"refused ", u64::from(refusal.number), b' ');
+    put_number(out, a, u64::from(refusal.place), after)
 }
 
 // Writes a whole text to the front of a lent list, which has to have the room.
-pub fn put_front(out: &mut [u8], text: &[u8], room: usize) -> Reported
+pub fn put_front(out: &mut [u8], text: &[u8], room: usize) -> Result<usize, Refusal>
     requires { length text.now ≤ room }
     ensures { Reports text.now room out.old result out.new }
 {
-    let verdict = check_long(out.len(), room);
-    match verdict {
-        Checked::Pass => Reported::Text(put_bytes(out, 0, text)),
-        Checked::Fail { number, place } => Reported::Refused { number, place },
-    }
+    check_long(out.len(), room)?;
+    Ok(put_bytes(out, 0, text))
 }

@@ -1,6 +1,9 @@
 -- Histories of the calls from C on a family are histories of the operations, so the theorems about every history hold of them. A call whose list
 -- for the values is too short is refused before its operation is called, and leaves everything. Assumes nothing.
+use Rattle.std.specs.Prelude.{Some, None, Option}
 use mathlib.Core.Path.{◌≡◌, refl, sym, ◌∙◌, ap, subst}
+use Rattle.family_spec.specs.declared.Served.{Served}
+use Rattle.kept_spec.specs.declared.Stepped.{Stepped}
 use mathlib.Core.Logic.{◌⊎◌, ⊎_elim, ◌↔◌}
 use mathlib.Core.Bool.{Bool, true, false, cond}
 use mathlib.Core.List.{List, [], ◌∷◌, ◌++◌, map}
@@ -11,16 +14,10 @@ use lib.IntN.{ℤ}
 use lib.ListN.{length}
 use borrow.Author.Tests.{leb-true, leb-false, le-leb, lt-leb, eqb-true}
 use Rattle.numbers.specs.Checks.{Answered}
-use Rattle.kept_spec.specs.Step.{StepResult}
 use Rattle.kept_spec.specs.Run.{Run, collect}
 use Rattle.kept_spec.specs.BookRun.{length_after}
 use Rattle.kept_spec.proofs.RunLaws.{run-through}
-use Rattle.kept_spec.proofs.OpenLaws.{open-answer-tells}
-use Rattle.kept_spec.proofs.StepLaws.{answer-tells}
 use Rattle.family_spec.specs.declared.Family.{Family}
-use Rattle.family_spec.specs.declared.NextMember.TheVariants as next
-use Rattle.family_spec.specs.declared.Turned.{Turned}
-use Rattle.family_spec.specs.declared.Turned.TheVariants.{Idle, Served}
 use Rattle.family_spec.specs.Family.{closed, totals, terms, member_at}
 use Rattle.family_spec.specs.Waiting.{waits}
 use Rattle.family_spec.specs.Member.{StepInputs, call_of}
@@ -47,8 +44,7 @@ module _ (s : ListStanding) (h : family_entries ≤ length s.family) {i : ℕ} {
 
   opens_by : (b : Bool) → leb open_values (length answer) ≡ b → Run FamilyMoves (standing_in s) (cond b (event_of opening ∷ []) []) (standing_in opened)
   opens_by true e =
-      subst (λ a. Run FamilyMoves (standing_in s) (event_of opening ∷ []) (record { family = family_in family'; kept = place_if a s.kept i kept; book = s.book; length = s.length })) (open-answer-tells (open_told r answer'))
-      (Run.step (FamilyMoves.opens (open_own s.family i kept k answer r family' answer' p h (leb-true open_values _ e))) Run.done)
+      Run.step (FamilyMoves.opens (open_own s.family i kept k answer r family' answer' p h (leb-true open_values _ e))) Run.done
   opens_by false e =
       let z = open-short s.family i kept k answer r family' answer' p h (leb-false open_values _ e) in
       subst (Run FamilyMoves (standing_in s) [])
@@ -58,7 +54,7 @@ module _ (s : ListStanding) (h : family_entries ≤ length s.family) {i : ℕ} {
 
 -- a refused step that left what it was lent leaves every member's masses, and its book
 left_alone :
-    {all all' : ℕ → List ℕ} {i : ℕ} {given left : List ℕ} {told : Answered StepResult} → left ≡ given → Lends all i given told left all' → (j : ℕ) → all' j ≡ all j
+    {all all' : ℕ → List ℕ} {i : ℕ} {given left : List ℕ} {told : Answered Stepped} → left ≡ given → Lends all i given told left all' → (j : ℕ) → all' j ≡ all j
 left_alone {all} {all'} {i} {given} {left} {told} e l j = by-place left all' e l
   where
     by-place : (left : List ℕ) (all' : ℕ → List ℕ) → left ≡ given → Lends all i given told left all' → all' j ≡ all j
@@ -70,7 +66,7 @@ left_alone {all} {all'} {i} {given} {left} {told} e l j = by-place left all' e l
     by-place left all' e (Lends.elsewhere n) = refl
 
 -- and the lengths of the books
-lengths-alone : (lengths : ℕ → ℕ) (i r : ℕ) (y : StepResult) → 0 < r → (j : ℕ) → lengths_after lengths i (told_by r y) j ≡ lengths j
+lengths-alone : (lengths : ℕ → ℕ) (i r : ℕ) (y : Stepped) → 0 < r → (j : ℕ) → lengths_after lengths i (told_by r y) j ≡ lengths j
 lengths-alone lengths i r y h j = by-test (eqb j i) refl
   where
     refused : (n : ℕ) → 0 < n → length_after (told_by n y) (lengths i) ≡ lengths i
@@ -90,14 +86,7 @@ module _ (s : ListStanding) (h : family_entries ≤ length s.family) {i : ℕ} {
 
   steps-by : (b : Bool) → leb step_values (length answer) ≡ b → Run FamilyMoves (standing_in s) (cond b (event_of stepping ∷ []) []) (standing_in stepped)
   steps-by true e =
-      let a = answer-tells (step_told s.family i x r answer') in
-      subst (λ t. Run FamilyMoves (standing_in s) (event_of stepping ∷ []) (record { family = family_in family'; kept = all; book = books; length = lengths_after s.length i t })) a
-      (Run.step
-      (FamilyMoves.steps (step-own s.family i x answer r family' kept scratch book answer' p h (leb-true step_values _ e))
-      (subst (λ t. Lends s.kept i x.kept t kept all) (sym a) q)
-      (subst (λ t. Lends s.book i x.book t book books) (sym a) u)
-      (subst (λ t. ToldLength s.length i x.length t) (sym a) l))
-      Run.done)
+      Run.step (FamilyMoves.steps (step-own s.family i x answer r family' kept scratch book answer' p h (leb-true step_values _ e)) q u l) Run.done
   steps-by false e =
       let z = step-short s.family i x answer r family' kept scratch book answer' p h (leb-false step_values _ e) in
       let some : 0 < r = ⊎_elim (λ n. omega (arith, n)) (λ n. ⊎_elim (λ m. omega (arith, m)) (λ m. ⊎_elim (λ k. omega (arith, k)) (λ k. omega (arith, k)) m) n) z.0 in
@@ -120,18 +109,18 @@ registers-by s h p = Run.step (FamilyMoves.registers (register-own _ _ _ _ p h))
 
 -- by what the turn told
 turned_by :
-    (s : FamilyStanding) (x : StepInputs) (g : Family) (a : Turned) {kept : List ℕ} {scratch : List ℤ} {book : List ℕ} {all books : ℕ → List ℕ}
+    (s : FamilyStanding) (x : StepInputs) (g : Family) (a : Option Served) {kept : List ℕ} {scratch : List ℤ} {book : List ℕ} {all books : ℕ → List ℕ}
     → TurnContract s.family x (record { family = g; answer = a }) kept scratch book → TurnLends s.kept x.kept a kept all
     → TurnLends s.book x.book a book books → TurnToldLength s.length x.length a
     → FamilyMoves s (FamilyEvent.turns s.family x (record { family = g; answer = a }) kept scratch book)
     (record { family = g; kept = all; book = books; length = turn_lengths s.length a })
-turned_by s x g Idle {kept} {scratch} {book} p q u l =
+turned_by s x g None {kept} {scratch} {book} p q u l =
     subst (λ X. X)
     (λ y.
-    FamilyMoves s (FamilyEvent.turns s.family x (record { family = g; answer = Idle }) kept scratch book)
+    FamilyMoves s (FamilyEvent.turns s.family x (record { family = g; answer = None }) kept scratch book)
     (record { family = g; kept = sym q y; book = sym u y; length = s.length }))
     (FamilyMoves.idles p)
-turned_by s x g (Served i a) p q u l = FamilyMoves.serves p q u l
+turned_by s x g (Some r) p q u l = FamilyMoves.serves p q u l
 
 module _ (s : ListStanding) (h : family_entries ≤ length s.family) {x : StepInputs} {answer : List ℕ} {r : ℕ} {family' kept : List ℕ} {scratch : List ℤ} {book answer' : List ℕ} (p : FamilyTurnReturns s.family x answer r family' kept scratch book answer') where
   abbrev turning : FamilyCall
@@ -208,7 +197,7 @@ module _ {cap scale n : ℕ} {family family' : List ℕ} (h : family_entries ≤
     call-waits i l = waits-by-history call-begins run i l
 
     -- the next is the first that waits after the last one served, going round, at the start from member 0
-    pub call_next : (i : ℕ) → (next_member (family_in end.family) ≡ next.Member i) ↔ FirstAmong (family_in end.family).waiting (search_from 0 (served_in (collect events_of es))) 8 i
+    pub call_next : (i : ℕ) → (next_member (family_in end.family) ≡ Some i) ↔ FirstAmong (family_in end.family).waiting (search_from 0 (served_in (collect events_of es))) 8 i
     call_next i = next-in-turn call-begins run i
 
     -- from a moment when member i waits, whatever follows: it is served within 8 turns, and those served before it are all different and not it

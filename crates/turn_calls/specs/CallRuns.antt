@@ -1,15 +1,9 @@
 -- Histories of the calls from C on a family, as histories of its operations. Assumes nothing.
-use Rattle.std.specs.Prelude.{◌≡◌, true, cond, List, [], ◌∷◌, ℕ, ◌≤◌, ◌<◌, leb, eqb, ℤ, length, drop}
+use Rattle.std.specs.Prelude.{Ok, Some, None, Option, ◌≡◌, true, cond, List, [], ◌∷◌, ℕ, ◌≤◌, ◌<◌, leb, eqb, ℤ, length, drop}
+use Rattle.family_spec.specs.declared.Served.{Served}
 use Rattle.numbers.specs.Lists.{at}
-use Rattle.numbers.specs.Checks.{accepted}
-use Rattle.book_spec.specs.StartBook.{book_start_tells}
-use Rattle.kept_spec.specs.Open.{open_answer}
-use Rattle.kept_spec.specs.Step.{step_tells, step_answer}
 use Rattle.kept_spec.specs.BookRun.{StartEvent, StartPromised}
-use Rattle.family_spec.specs.declared.Turned.{Turned}
-use Rattle.family_spec.specs.declared.Turned.TheVariants.{Idle, Served}
 use Rattle.family_spec.specs.Member.{StepInputs}
-use Rattle.family_spec.specs.Operations.{register_answer}
 use Rattle.family_spec.specs.History.{FamilyEvent, FamilyStanding, place_if, Lends, place, lengths_after, ToldLength}
 use Rattle.family_spec.specs.Family.{member_at, total_of}
 use Rattle.call_values.specs.Values.{told_by, open_values, step_values}
@@ -37,18 +31,18 @@ abbrev pub standing_in : ListStanding → FamilyStanding
 standing_in s = record { family = family_in s.family; kept = s.kept; book = s.book; length = s.length }
 
 -- what a turn told, by the list for its values
-abbrev pub turn_told : List ℕ → StepInputs → List ℕ → Turned
+abbrev pub turn_told : List ℕ → StepInputs → List ℕ → Option Served
 turn_told family x answer' =
     let i = at answer' 0 in
-    cond (eqb i 8) Idle (Served i (step_answer (step_told family i x (at answer' 1) (drop 2 answer'))))
+    cond (eqb i 8) None (Some (record { member = i; stepped = (step_told family i x (at answer' 1) (drop 2 answer')) }))
 
 -- the operation that it is
 abbrev pub event_of : FamilyCall → FamilyEvent
 event_of (FamilyCall.opens family i kept k answer r family' answer') =
-    FamilyEvent.opens (family_in family) i kept k (record { family = family_in family'; answer = open_answer (open_told r answer') })
+    FamilyEvent.opens (family_in family) i kept k (record { family = family_in family'; answer = (open_told r answer') })
 event_of (FamilyCall.steps family i x answer r family' kept scratch book answer') =
-    FamilyEvent.steps (family_in family) i x (record { family = family_in family'; answer = step_answer (step_told family i x r answer') }) kept scratch book
-event_of (FamilyCall.registers family i r family') = FamilyEvent.registers (family_in family) i (record { family = family_in family'; answer = register_answer (told_by r tt) })
+    FamilyEvent.steps (family_in family) i x (record { family = family_in family'; answer = (step_told family i x r answer') }) kept scratch book
+event_of (FamilyCall.registers family i r family') = FamilyEvent.registers (family_in family) i (record { family = family_in family'; answer = (told_by r tt) })
 event_of (FamilyCall.turns family x answer r family' kept scratch book answer') =
     FamilyEvent.turns (family_in family) x (record { family = family_in family'; answer = turn_told family x answer' }) kept scratch book
 event_of (FamilyCall.books family i e) = FamilyEvent.books (family_in family) i e
@@ -65,17 +59,17 @@ events_of (FamilyCall.turns family x answer r family' kept scratch book answer')
 events_of (FamilyCall.books family i e) = event_of (FamilyCall.books family i e) ∷ []
 
 -- a turn that served i was lent masses and book as i's steps are; an idle one leaves all lists and lengths
-abbrev pub TurnLends : (ℕ → List ℕ) → List ℕ → Turned → List ℕ → (ℕ → List ℕ) → Type 0
-TurnLends all given Idle left all' = all' ≡ all
-TurnLends all given (Served i answer) left all' = Lends all i given (step_tells answer) left all'
+abbrev pub TurnLends : (ℕ → List ℕ) → List ℕ → Option Served → List ℕ → (ℕ → List ℕ) → Type 0
+TurnLends all given None left all' = all' ≡ all
+TurnLends all given (Some r) left all' = Lends all r.member given r.stepped left all'
 
-abbrev pub TurnToldLength : (ℕ → ℕ) → ℕ → Turned → Type 0
-TurnToldLength lengths l Idle = Unit
-TurnToldLength lengths l (Served i answer) = ToldLength lengths i l (step_tells answer)
+abbrev pub TurnToldLength : (ℕ → ℕ) → ℕ → Option Served → Type 0
+TurnToldLength lengths l None = Unit
+TurnToldLength lengths l (Some r) = ToldLength lengths r.member l r.stepped
 
-abbrev pub turn_lengths : (ℕ → ℕ) → Turned → ℕ → ℕ
-turn_lengths lengths Idle = lengths
-turn_lengths lengths (Served i answer) = lengths_after lengths i (step_tells answer)
+abbrev pub turn_lengths : (ℕ → ℕ) → Option Served → ℕ → ℕ
+turn_lengths lengths None = lengths
+turn_lengths lengths (Some r) = lengths_after lengths r.member r.stepped
 
 -- each call is given the list standing and keeps its promise, whatever the length of the list for its values; masses and books are lent as to the
 -- operations, and a turn with too short a list leaves them
@@ -103,6 +97,6 @@ pub data FamilyCallMoves : ListStanding → FamilyCall → ListStanding → Type
       → FamilyCallMoves s (FamilyCall.turns s.family x answer r family' kept scratch book answer')
       (record { family = family'; kept = s.kept; book = s.book; length = s.length })
   books : {s : ListStanding} {i : ℕ} {e : StartEvent} {l : ℕ}
-      → StartPromised e → book_start_tells e.answer ≡ accepted l → (member_at (family_in s.family) i).opened ≡ true → e.total ≡ total_of (family_in s.family) i
+      → StartPromised e → e.answer ≡ Ok l → (member_at (family_in s.family) i).opened ≡ true → e.total ≡ total_of (family_in s.family) i
       → FamilyCallMoves s (FamilyCall.books s.family i e)
       (record { family = s.family; kept = s.kept; book = place s.book i e.left; length = place s.length i l })

@@ -1,17 +1,18 @@
-// The calls from C for turns of a family, which stands in a lent list of numbers; `legzhuro_c` exports them. Public: `register`, `next`, `waiting`,
-// `turn`. What holds of every history of the calls on a family, those of `family_calls` too, is proved here, from `family_spec`. Relies on `turns`,
-// `family_calls`, `call_values`, `family_spec`, `kept_spec`, `qlt_spec` and `numbers`.
+// The calls from C for turns of a family, which stands in a lent list of numbers; `legzhuro_c` exports them, and returns their verdicts as numbers.
+// Public: `register`, `next`, `waiting`, `turn`. What holds of every history of the calls on a family, those of `family_calls` too, is proved here,
+// from `family_spec`. Relies on `turns`, `family_calls`, `call_values`, `family_spec`, `kept_spec`, `qlt_spec` and `numbers`.
 #![tactic(auto)]
 
-ghost use Rattle.qlt_spec.specs.Field.{lists};
+ghost use Rattle.qlt_spec.specs.Field.{lists_of};
+ghost use Rattle.call_values.specs.Values.{returned};
 ghost use Rattle.family_spec.specs.Member.{step_inputs};
 ghost use Rattle.turn_calls.specs.TurnCalls.{FamilyRegisterReturns, FamilyNextReturns, FamilyWaitingReturns, FamilyTurnReturns};
 
-use call_values::values::refusal;
 use family_calls::list::{FAMILY_ENTRIES, put_family, read_family};
 use family_calls::verdict::call_room;
-use family_spec::{Registered, Turned};
-use numbers::Checked;
+use numbers::Refusal;
+use numbers::checks::check_long;
+use qlt_spec::FieldLists;
 use turns::{next_member, waiting_count};
 
 mod put;
@@ -20,42 +21,34 @@ mod put;
 const TURN_VALUES: usize = 7;
 
 // Registers a member as waiting.
-pub fn register(family: &mut [u64], member: u32) -> u64
-    ensures { FamilyRegisterReturns family.old member result family.new }
+pub fn register(family: &mut [u64], member: u32) -> Result<(), Refusal>
+    ensures { FamilyRegisterReturns family.old member (returned result) family.new }
 {
-    if family.len() < FAMILY_ENTRIES {
-        return 3;
-    }
+    check_long(family.len(), FAMILY_ENTRIES)?;
     let registered = turns::register(read_family(family), member);
-    let told = registered.answer;
-    match told {
-        Registered::Done => put_family(registered.family, family),
-        Registered::Refused { number, place } => refusal(number, place),
-    }
+    registered.answer?;
+    put_family(registered.family, family);
+    Ok(())
 }
 
 // Reads the next in turn: answer[0] is the member, or 8 for nobody.
-pub fn next(family: &[u64], answer: &mut [u64]) -> u64
-    ensures { FamilyNextReturns family.now answer.old result answer.new }
+pub fn next(family: &[u64], answer: &mut [u64]) -> Result<(), Refusal>
+    ensures { FamilyNextReturns family.now answer.old (returned result) answer.new }
 {
-    let room = call_room(family.len(), answer.len(), 1);
-    if let Checked::Fail { number, place } = room {
-        return refusal(number, place);
-    }
+    call_room(family.len(), answer.len(), 1)?;
     let next = next_member(read_family(family));
-    put::put_value(put::next_word(next), answer)
+    put::put_value(put::next_word(next), answer);
+    Ok(())
 }
 
 // Reads how many members wait: answer[0] is their number.
-pub fn waiting(family: &[u64], answer: &mut [u64]) -> u64
-    ensures { FamilyWaitingReturns family.now answer.old result answer.new }
+pub fn waiting(family: &[u64], answer: &mut [u64]) -> Result<(), Refusal>
+    ensures { FamilyWaitingReturns family.now answer.old (returned result) answer.new }
 {
-    let room = call_room(family.len(), answer.len(), 1);
-    if let Checked::Fail { number, place } = room {
-        return refusal(number, place);
-    }
+    call_room(family.len(), answer.len(), 1)?;
     let count = waiting_count(read_family(family));
-    put::put_value(count as u64, answer)
+    put::put_value(u64::from(count), answer);
+    Ok(())
 }
 
 // Serves the next in turn: answer[0] is the member, or 8 for idle, answer[1] what its step returned, answer[2] the outcome, answer[3] the new
@@ -65,51 +58,33 @@ pub fn turn(
     kept: &mut [u32],
     source: i32,
     scale: u32,
-    targets: &[i32],
-    lows: &[u32],
-    highs: &[u32],
-    safe_lows: &[u32],
-    safe_highs: &[u32],
-    weights: &[u32],
-    parents: &[u32],
+    field: &FieldLists,
     scratch: &mut [i64],
     book: &mut [u8],
     told: usize,
     answer: &mut [u64],
-) -> u64
+) -> Result<(), Refusal>
     ensures { FamilyTurnReturns family.old
-        (step_inputs kept.old source scale
-        (lists targets.now lows.now highs.now safe_lows.now safe_highs.now
-        weights.now parents.now)
-        scratch.old book.old told)
-        answer.old result family.new kept.new scratch.new book.new answer.new }
+        (step_inputs kept.old source scale (lists_of field.now) scratch.old book.old told)
+        answer.old (returned result) family.new kept.new scratch.new book.new answer.new }
 {
-    let room = call_room(family.len(), answer.len(), TURN_VALUES);
-    if let Checked::Fail { number, place } = room {
-        return refusal(number, place);
-    }
+    call_room(family.len(), answer.len(), TURN_VALUES)?;
     let turned = turns::turn(
         read_family(family),
         kept,
         source,
         scale,
-        targets,
-        lows,
-        highs,
-        safe_lows,
-        safe_highs,
-        weights,
-        parents,
+        field,
         scratch,
         book,
         told,
     );
-    let answered = turned.answer;
-    match answered {
-        Turned::Idle => put::put_idle(answer),
-        Turned::Served { member, stepped } => {
+    match turned.answer {
+        None => put::put_idle(answer),
+        Some(served) => {
             put_family(turned.family, family);
-            put::put_served(member, stepped, answer)
+            put::put_served(served, answer);
         }
     }
+    Ok(())
 }

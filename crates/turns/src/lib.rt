@@ -4,36 +4,37 @@
 #![tactic(auto)]
 
 ghost use Rattle.std.specs.Prelude.{◌≡◌};
-ghost use Rattle.qlt_spec.specs.Field.{lists};
+ghost use Rattle.qlt_spec.specs.Field.{lists_of};
 ghost use Rattle.family_spec.specs.Member.{step_inputs};
 ghost use Rattle.family_spec.specs.Operations.{RegisterContract, next_member, waiting_count, TurnContract};
 
 use family::step_member;
 use family::verdict::check_opened;
-use family_spec::{Family, FamilyRegistered, FamilyTurned, NextMember, Registered, Turned};
-use numbers::Checked;
+use family_spec::{Family, FamilyAnswer, Served};
+use numbers::Refusal;
+use qlt_spec::FieldLists;
 
 mod waiting;
 
 // Registers a member as waiting; twice counts once. A refused call gives the family back as it came.
-pub fn register(family: Family, member: u32) -> FamilyRegistered
+pub fn register(family: Family, member: u32) -> FamilyAnswer<Result<(), Refusal>>
     ensures { RegisterContract family member result }
 {
-    let verdict = check_opened(family, member);
-    if let Checked::Fail { number, place } = verdict {
-        return FamilyRegistered {
+    match check_opened(family, member) {
+        Ok(()) => FamilyAnswer {
+            family: waiting::registered(family, member),
+            answer: Ok(()),
+        },
+        Err(refusal) => FamilyAnswer {
             family,
-            answer: Registered::Refused { number, place },
-        };
-    }
-    FamilyRegistered {
-        family: waiting::registered(family, member),
-        answer: Registered::Done,
+            answer: Err(refusal),
+        },
     }
 }
 
 // The next in turn: the first that waits after the last one served, going round.
-pub fn next_member(family: Family) -> NextMember
+#[tactic(auto, unfolding(family_spec::specs::Operations::next_member))]
+pub fn next_member(family: Family) -> Option<u32>
     ensures { result ≡ next_member family }
 {
     waiting::first_waiting(family.waiting, family.from)
@@ -43,7 +44,7 @@ pub fn next_member(family: Family) -> NextMember
 pub fn waiting_count(family: Family) -> u32
     ensures { result ≡ waiting_count family }
 {
-    u8::count_ones(family.waiting)
+    family.waiting.count_ones()
 }
 
 // Serves the next in turn: its step is called with what was lent, accepted or not, and its waiting ends. With nobody waiting the turn is idle:
@@ -53,40 +54,31 @@ pub fn turn(
     kept: &mut [u32],
     source: i32,
     scale: u32,
-    targets: &[i32],
-    lows: &[u32],
-    highs: &[u32],
-    safe_lows: &[u32],
-    safe_highs: &[u32],
-    weights: &[u32],
-    parents: &[u32],
+    field: &FieldLists,
     scratch: &mut [i64],
     book: &mut [u8],
     told: usize,
-) -> FamilyTurned
+) -> FamilyAnswer<Option<Served>>
     ensures { TurnContract family
-        (step_inputs kept.old source scale
-        (lists targets.now lows.now highs.now safe_lows.now safe_highs.now
-        weights.now parents.now)
-        scratch.old book.old told)
+        (step_inputs kept.old source scale (lists_of field.now) scratch.old book.old told)
         result kept.new scratch.new book.new }
 {
-    let next = next_member(family);
-    match next {
-        NextMember::Member(member) => {
+    match next_member(family) {
+        Some(member) => {
             let step = step_member(
-                family, member, kept, source, scale, targets, lows, highs, safe_lows, safe_highs,
-                weights, parents, scratch, book, told,
+                family, member, kept, source, scale, field, scratch, book, told,
             );
-            let stepped = step.answer;
-            FamilyTurned {
+            FamilyAnswer {
                 family: waiting::served(step.family, member),
-                answer: Turned::Served { member, stepped },
+                answer: Some(Served {
+                    member,
+                    stepped: step.answer,
+                }),
             }
         }
-        NextMember::Nobody => FamilyTurned {
+        None => FamilyAnswer {
             family,
-            answer: Turned::Idle,
+            answer: None,
         },
     }
 }

@@ -1,12 +1,12 @@
 // Who waits: a byte with a bit for each member, and the search for the first that waits.
-ghost use Rattle.std.specs.Prelude.{◌≡◌, suc, ◌%◌, ◌^◌, ◌<◌};
+ghost use Rattle.std.specs.Prelude.{◌≡◌, ◌^◌, ◌<◌};
 ghost use Rattle.family_spec.specs.Family.{schedule};
 ghost use Rattle.family_spec.specs.Waiting.{waits, with_bit, without_bit, first_waiting};
 ghost use Rattle.family_spec.specs.Operations.{serve};
 
-use family_spec::{Family, NextMember};
+use family_spec::Family;
 
-// 2 ^ i.
+// The byte of bit i alone.
 fn power(i: u32) -> u8
     requires { i < 8 }
     ensures { result ≡ 2 ^ i }
@@ -15,48 +15,43 @@ fn power(i: u32) -> u8
 }
 
 // Whether bit i is set.
+#[tactic(auto, using(family_spec::proofs::ByteLaws::bit_read))]
 fn is_waiting(byte: u8, i: u32) -> bool
     requires { i < 8 }
     ensures { result ≡ waits byte i }
 {
-    byte / power(i) % 2 == 1
+    byte & power(i) != 0
 }
 
 // The byte with bit i set.
+#[tactic(auto, using(family_spec::proofs::ByteLaws::bit_set))]
 fn with_bit(byte: u8, i: u32) -> u8
     requires { i < 8 }
     ensures { result ≡ with_bit byte i }
 {
-    if is_waiting(byte, i) {
-        return byte;
-    }
-    byte + power(i)
+    byte | power(i)
 }
 
 // The byte with bit i clear.
+#[tactic(auto, using(family_spec::proofs::ByteLaws::bit_cleared))]
 fn without_bit(byte: u8, i: u32) -> u8
     requires { i < 8 }
     ensures { result ≡ without_bit byte i }
 {
-    if is_waiting(byte, i) {
-        return byte - power(i);
-    }
-    byte
+    byte & !power(i)
 }
 
 // The first member from `from` on, going round, whose bit is set.
-pub fn first_waiting(byte: u8, from: u32) -> NextMember
+pub fn first_waiting(byte: u8, from: u32) -> Option<u32>
     ensures { result ≡ first_waiting byte from 8 }
 {
-    let mut k: u32 = 0;
-    while k < 8 {
+    for k in 0..8 {
         let i = (from % 8 + k) % 8;
         if is_waiting(byte, i) {
-            return NextMember::Member(i);
+            return Some(i);
         }
-        k += 1;
     }
-    NextMember::Nobody
+    None
 }
 
 // The family with a member registered: it waits.

@@ -5,7 +5,8 @@ ghost use Rattle.scratch_spec.specs.Columns.{MASS, LOW, HIGH, col, num, InRow};
 ghost use Rattle.scratch_spec.specs.Walks.{group_in, room_in, either, Clipping, Clipped, Sharing, Shared, Splitting, SplitDone, SplitWatched};
 
 use crate::columns::{get_above, put};
-use scratch_spec::{FIRST, HIGH, LOW, MASS, NEXT, WEIGHT};
+use numbers::arith::{difference, quotient};
+use scratch_spec::Column;
 
 // Two sums of one walk.
 #[derive(Clone, Copy)]
@@ -19,10 +20,10 @@ fn clip_at(s: &[i64], u: usize) -> u64
     requires { InRow MASS s.now u }
     ensures { (result ≡ clip (num LOW s.now u) (num HIGH s.now u) (col MASS s.now u)) × (result < 2 ^ 63) }
 {
-    let target = get_above(s, MASS, u);
-    let low = get_above(s, LOW, u);
-    let high = get_above(s, HIGH, u);
-    numbers::arith::larger(low, numbers::arith::smaller(target, high))
+    let target = get_above(s, Column::Mass, u);
+    let low = get_above(s, Column::Low, u);
+    let high = get_above(s, Column::High, u);
+    low.max(target.min(high))
 }
 
 // Clips the targets on v's chain; gives the sum of the clipped values and that of the weights.
@@ -30,14 +31,14 @@ fn clip_walk(s: &mut [i64], m: usize, v: usize) -> Sums
     requires { Clipping m v s.old }
     ensures { Clipped m v s.old s.new result.main result.side }
 {
-    let mut u = numbers::arith::index(get_above(s, FIRST, v));
+    let mut u = get_above(s, Column::First, v) as usize;
     let mut sum: u64 = 0;
     let mut all: u64 = 0;
     while u < m {
         let x = clip_at(s, u);
-        let w = get_above(s, WEIGHT, u);
-        let next = numbers::arith::index(get_above(s, NEXT, u));
-        put(s, MASS, u, x);
+        let w = get_above(s, Column::Weight, u);
+        let next = get_above(s, Column::Next, u) as usize;
+        put(s, Column::Mass, u, x);
         sum += x;
         all += w;
         u = next;
@@ -53,9 +54,9 @@ fn room_of(down: bool, low: u64, high: u64, x: u64) -> u64
     ensures { result ≡ room down low high x }
 {
     if down {
-        if x < low { 0 } else { x - low }
+        x.saturating_sub(low)
     } else {
-        if high < x { 0 } else { high - x }
+        high.saturating_sub(x)
     }
 }
 
@@ -64,7 +65,7 @@ fn moved_by(down: bool, x: u64, share: u64) -> u64
     ensures { result ≡ moved down x share }
 {
     if down {
-        if x < share { 0 } else { x - share }
+        x.saturating_sub(share)
     } else {
         x + share
     }
@@ -80,9 +81,9 @@ fn room_at(s: &[i64], down: bool, u: usize) -> u64
     requires { InRow MASS s.now u }
     ensures { (result ≡ room_in down s.now u) × (result < 2 ^ 63) × (moved down (num MASS s.now u) result < 2 ^ 63) }
 {
-    let x = get_above(s, MASS, u);
-    let low = get_above(s, LOW, u);
-    let high = get_above(s, HIGH, u);
+    let x = get_above(s, Column::Mass, u);
+    let low = get_above(s, Column::Low, u);
+    let high = get_above(s, Column::High, u);
     room_of(down, low, high, x)
 }
 
@@ -99,19 +100,19 @@ fn share_walk(
     requires { Sharing by_room down m v d all s.old }
     ensures { Shared by_room down m v d s.old s.new result.main result.side }
 {
-    let mut u = numbers::arith::index(get_above(s, FIRST, v));
+    let mut u = get_above(s, Column::First, v) as usize;
     let mut before: u64 = 0;
     let mut prior: u64 = 0;
     let mut given: u64 = 0;
     let mut left: u64 = 0;
     while u < m {
         let cap = room_at(s, down, u);
-        let size = choose(by_room, cap, get_above(s, WEIGHT, u));
-        let x = get_above(s, MASS, u);
-        let next = numbers::arith::index(get_above(s, NEXT, u));
-        let upto = numbers::arith::quotient(d * (before + size), all);
-        let share = numbers::arith::smaller(cap, upto - prior);
-        put(s, MASS, u, moved_by(down, x, share));
+        let size = choose(by_room, cap, get_above(s, Column::Weight, u));
+        let x = get_above(s, Column::Mass, u);
+        let next = get_above(s, Column::Next, u) as usize;
+        let upto = quotient(d * (before + size), all);
+        let share = cap.min(upto - prior);
+        put(s, Column::Mass, u, moved_by(down, x, share));
         before += size;
         given += share;
         left += cap - share;
@@ -141,20 +142,20 @@ pub fn split_watched(s: &mut [i64], m: usize, v: usize, u: usize) -> Watched
     ensures split_watched { SplitWatched m v u s.old s.new result.clip result.first result.both }
     ensures deficit_value { result.deficit ≡ deficit (group_in m v s.old) (num MASS s.old v) }
 {
-    let mass = get_above(s, MASS, v);
+    let mass = get_above(s, Column::Mass, v);
     let clipped = clip_walk(s, m, v);
     let sum = clipped.main;
     let all = clipped.side;
-    let clip = get_above(s, MASS, u);
-    let deficit = numbers::arith::difference(mass, sum);
-    let down = numbers::arith::is_negative(deficit);
-    let size = numbers::arith::magnitude(deficit);
+    let clip = get_above(s, Column::Mass, u);
+    let deficit = difference(mass, sum);
+    let down = deficit < 0;
+    let size = deficit.unsigned_abs();
     let shares = share_walk(s, m, v, false, down, size, all);
     let given = shares.main;
     let left = shares.side;
-    let first = get_above(s, MASS, u);
+    let first = get_above(s, Column::Mass, u);
     share_walk(s, m, v, true, down, size - given, left);
-    let both = get_above(s, MASS, u);
+    let both = get_above(s, Column::Mass, u);
     Watched {
         clip,
         first,

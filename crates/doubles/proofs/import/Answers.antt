@@ -1,64 +1,65 @@
 -- `doubles::import` meets its contract: each field is what its function gives, the answer is then `import_form`, and that meets the contract.
-use mathlib.Core.Path.{◌≡◌, sym, ◌∙◌, subst}
+use Rattle.std.specs.Prelude.{Result}
+use mathlib.Core.Path.{◌≡◌}
 use Prim.Native.Nat.{ℕ}
 use native.Mathlib.Omega.{arith}
 use mir.Syntax.{w32}
 use mir.ValLaws.{to_z-of_z}
+use lib.Ieee.{Float}
+use borrow.Author.Rules.{rules}
 use borrow.Author.Tests.{le-leb, lt-leb}
-use Rattle.doubles_spec.specs.Import.{ImportContract}
-use Rattle.doubles_spec.specs.Forms.{target_field, low_field, high_field, import_fields, import_form}
-use Rattle.doubles_spec.specs.declared.CellDoubles.{CellDoubles}
-use Rattle.doubles_spec.specs.declared.Imported.{Imported}
-use Rattle.doubles_spec.proofs.ImportLaws.{import-meets}
+use Rattle.doubles_spec.specs.Forms.{Field, named, import_fields, import_form}
+use Rattle.doubles_spec.specs.declared.ImportRefusal.{ImportRefusal}
+use Rattle.doubles_spec.proofs.ImportLaws.{import_meets}
 use Rattle.doubles.proofs.import.Goals as goal
 
--- what the form gives meets the contract
-meets : (k : ℕ) (d : CellDoubles) {r : Imported} → import_form k d ≡ r → ImportContract d k r
-meets k d e = subst (λ (r : Imported). ImportContract d k r) e (import-meets d k)
+-- what a field gives in the form
+gave : {X : Type 0} {given want : Field X} {r o : Result X ImportRefusal} (f : ℕ) (x : Float) → r ≡ named given f x → given ≡ want → r ≡ o → named want f x ≡ o
+gave f x h e w = cc
 
 pub returns-then-scale-gt30 : goal.returns-then-scale-gt30
 unfolding import_form
-returns-then-scale-gt30 c = let z = c.args in meets z.scale z.cell (rw (lt-leb z.scale 30 c.if-scale-gt30.true))
+returns-then-scale-gt30 c = let z = c.args in import_meets z.cell z.scale (rw (lt-leb z.scale 30 c.if-scale-gt30.true))
 
 -- at each later return the form is rewritten by what the scale's test and the fields gave
-pub returns-in-Bad : goal.returns-in-Bad
+pub returns-in_err-target : goal.returns-in_err-target
 unfolding import_form import_fields
-returns-in-Bad c =
+returns-in_err-target c =
     let z = c.args in
-    meets z.scale z.cell
-    (rw (le-leb z.scale 30 (omega (arith, c.if-scale-gt30.false)), sym c.target_field.ensures ∙ c.in-Bad.is) (sym c.refused.ensures))
+    import_meets z.cell z.scale
+    (rw (le-leb z.scale 30 (omega (arith, c.if-scale-gt30.false)), gave 0 z.cell.target c.named.ensures c.target_field.ensures c.in_err-target.was) (search rules))
 
-pub returns-in-Bad-low_field : goal.returns-in-Bad-low_field
+pub returns-in_err-low : goal.returns-in_err-low
 unfolding import_form import_fields
-returns-in-Bad-low_field c =
+returns-in_err-low c =
     let z = c.args in
-    meets z.scale z.cell
-    (rw (le-leb z.scale 30 (omega (arith, c.if-scale-gt30.false)), sym c.target_field.ensures ∙ c.in-Units.is, sym c.low_field.ensures ∙ c.in-Bad-low_field.is) (sym c.refused-in-Bad-low_field.ensures))
+    import_meets z.cell z.scale
+    (rw (le-leb z.scale 30 (omega (arith, c.if-scale-gt30.false)), gave 0 z.cell.target c.named.ensures c.target_field.ensures c.in_ok-target.was, gave 1 z.cell.low c.named-2.ensures c.low_field.ensures c.in_err-low.was) (search rules))
 
-pub returns-in-Bad-high_field : goal.returns-in-Bad-high_field
+pub returns-in_err-high : goal.returns-in_err-high
 unfolding import_form import_fields
-returns-in-Bad-high_field c =
+returns-in_err-high c =
     let z = c.args in
-    meets z.scale z.cell
-    (rw (le-leb z.scale 30 (omega (arith, c.if-scale-gt30.false)), sym c.target_field.ensures ∙ c.in-Units.is, sym c.low_field.ensures ∙ c.in-Units-low_field.is, sym c.high_field.ensures ∙ c.in-Bad-high_field.is) (sym c.refused-in-Bad-high_field.ensures))
+    import_meets z.cell z.scale
+    (rw (le-leb z.scale 30 (omega (arith, c.if-scale-gt30.false)), gave 0 z.cell.target c.named.ensures c.target_field.ensures c.in_ok-target.was, gave 1 z.cell.low c.named-2.ensures c.low_field.ensures c.in_ok-low.was, gave 2 z.cell.high c.named-3.ensures c.high_field.ensures c.in_err-high.was) (search rules))
 
-pub returns-in-Bad-low_field-2 : goal.returns-in-Bad-low_field-2
+pub returns-in_err-safe_low : goal.returns-in_err-safe_low
 unfolding import_form import_fields
-returns-in-Bad-low_field-2 c =
+returns-in_err-safe_low c =
     let z = c.args in
-    meets z.scale z.cell
-    (rw (le-leb z.scale 30 (omega (arith, c.if-scale-gt30.false)), sym c.target_field.ensures ∙ c.in-Units.is, sym c.low_field.ensures ∙ c.in-Units-low_field.is, sym c.high_field.ensures ∙ c.in-Units-high_field.is, sym c.low_field-2.ensures ∙ c.in-Bad-low_field-2.is) (sym c.refused-in-Bad-low_field-2.ensures))
+    import_meets z.cell z.scale
+    (rw (le-leb z.scale 30 (omega (arith, c.if-scale-gt30.false)), gave 0 z.cell.target c.named.ensures c.target_field.ensures c.in_ok-target.was, gave 1 z.cell.low c.named-2.ensures c.low_field.ensures c.in_ok-low.was, gave 2 z.cell.high c.named-3.ensures c.high_field.ensures c.in_ok-high.was, gave 3 z.cell.safe_low c.named-4.ensures c.low_field-2.ensures c.in_err-safe_low.was) (search rules))
 
-pub returns-in-Bad-high_field-2 : goal.returns-in-Bad-high_field-2
+pub returns-in_err-safe_high : goal.returns-in_err-safe_high
 unfolding import_form import_fields
-returns-in-Bad-high_field-2 c =
+returns-in_err-safe_high c =
     let z = c.args in
-    meets z.scale z.cell
-    (rw (le-leb z.scale 30 (omega (arith, c.if-scale-gt30.false)), sym c.target_field.ensures ∙ c.in-Units.is, sym c.low_field.ensures ∙ c.in-Units-low_field.is, sym c.high_field.ensures ∙ c.in-Units-high_field.is, sym c.low_field-2.ensures ∙ c.in-Units-low_field-2.is, sym c.high_field-2.ensures ∙ c.in-Bad-high_field-2.is) (sym c.refused-in-Bad-high_field-2.ensures))
+    import_meets z.cell z.scale
+    (rw (le-leb z.scale 30 (omega (arith, c.if-scale-gt30.false)), gave 0 z.cell.target c.named.ensures c.target_field.ensures c.in_ok-target.was, gave 1 z.cell.low c.named-2.ensures c.low_field.ensures c.in_ok-low.was, gave 2 z.cell.high c.named-3.ensures c.high_field.ensures c.in_ok-high.was, gave 3 z.cell.safe_low c.named-4.ensures c.low_field-2.ensures c.in_ok-safe_low.was, gave 4 z.cell.safe_high c.named-5.ensures c.high_field-2.ensures c.in_err-safe_high.was) (search rules))
 
 pub returns : goal.returns
 unfolding import_form import_fields
 returns c =
     let z = c.args in
-    meets z.scale z.cell
-    (rw (le-leb z.scale 30 (omega (arith, c.if-scale-gt30.false)), sym c.target_field.ensures ∙ c.in-Units.is, sym c.low_field.ensures ∙ c.in-Units-low_field.is, sym c.high_field.ensures ∙ c.in-Units-high_field.is, sym c.low_field-2.ensures ∙ c.in-Units-low_field-2.is, sym c.high_field-2.ensures ∙ c.in-Units-high_field-2.is, to_z-of_z w32 c.in-Units.units (record { sfits = omega arith })))
+    import_meets z.cell z.scale
+    (rw (le-leb z.scale 30 (omega (arith, c.if-scale-gt30.false)), gave 0 z.cell.target c.named.ensures c.target_field.ensures c.in_ok-target.was, gave 1 z.cell.low c.named-2.ensures c.low_field.ensures c.in_ok-low.was, gave 2 z.cell.high c.named-3.ensures c.high_field.ensures c.in_ok-high.was, gave 3 z.cell.safe_low c.named-4.ensures c.low_field-2.ensures c.in_ok-safe_low.was, gave 4 z.cell.safe_high c.named-5.ensures c.high_field-2.ensures c.in_ok-safe_high.was, to_z-of_z w32 c.in_ok-target.target (record { sfits = omega arith })))

@@ -3,7 +3,7 @@ use Rattle.text.proofs.ReportsLaws.{text-fits}
 use Rattle.legzhuro.proofs.main.Goals as goal
 
 pub slice_bounds-out-end : goal.slice_bounds-out-end
-slice_bounds-out-end c = (text-fits (rw c.in-Text.is at c.report.ensures)).0
+slice_bounds-out-end c = (text-fits (rw c.in-Ok.is at c.report.ensures)).0
 
 pub slice_bounds-write_all-end : goal.slice_bounds-write_all-end
-slice_bounds-write_all-end c = (text-fits (rw c.in-Text.is at c.report.ensures)).1
+slice_bounds-write_all-end c = (text-fits (rw c.in-Ok.is at c.report.ensures)).1

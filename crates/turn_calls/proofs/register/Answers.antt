@@ -1,32 +1,33 @@
 -- `turn_calls::register` meets its contract: the room first, and then what the operation tells is returned and written.
-use mathlib.Core.Path.{subst}
-use native.Mathlib.Omega.{arith}
+use Rattle.std.proofs.lemmas.Result.{err_from_is_err_and}
+use mathlib.Core.Path.{sym, subst}
+use Rattle.numbers.proofs.CheckLaws.{long-decides}
 use Rattle.family_spec.specs.Operations.{RegisterContract}
-use Rattle.family_calls.specs.List.{family_in}
 use Rattle.turn_calls.proofs.TurnCallLaws.{register-no-room, register-done, register-refused}
 use Rattle.turn_calls.proofs.register.Goals as goal
-use Rattle.turn_calls.proofs.register.Lts as lts
-use Rattle.turn_calls.proofs.register.Tie as tie
-use Rattle.turn_calls.proofs.register.Reads as reads
 
--- places in the code at which no goal stands
-abbrev After-register-registered : Type 0
-After-register-registered = lts.After-register tie.the-claims reads.Pre reads.Post
-
--- what the operation promises, of the family in the list
-promised : (c : After-register-registered) → let a = c.args in RegisterContract (family_in a.family.now) a.member c.register-registered.result
-promised c = let a = c.args in subst (λ f. RegisterContract f a.member c.register-registered.result) c.read_family.ensures c.register-registered.ensures
-
-pub returns-then-family-lt-FAMILY_ENTRIES : goal.returns-then-family-lt-FAMILY_ENTRIES
-returns-then-family-lt-FAMILY_ENTRIES c = let a = c.args in register-no-room a.family.now a.member c.if-family-lt-FAMILY_ENTRIES.true
-
-pub returns-in-Done : goal.returns-in-Done
-returns-in-Done c =
+pub returns-in_err-check_long : goal.returns-in_err-check_long
+returns-in_err-check_long c =
     let a = c.args in
-    let put = c.put_family.ensures in
-    register-done a.family.now a.member _ (promised c.before.before.before.before.before.before.before) (omega (arith, c.if-family-lt-FAMILY_ENTRIES.false)) c.in-Done.is put.0 put.1
+    let p = err_from_is_err_and c.from_residual.result c.from_residual.ensures.1 in
+    rw (p.1, p.2) (register-no-room a.family.now a.member (sym c.in_err-check_long.ensures))
 
-pub returns-in-Refused : goal.returns-in-Refused
-returns-in-Refused c =
+pub read_family-requires : goal.read_family-requires
+read_family-requires c = (long-decides _ _).passes.0 (sym c.in_ok-check_long.ensures)
+
+pub returns-in_err-registered : goal.returns-in_err-registered
+returns-in_err-registered c =
     let a = c.args in
-    register-refused a.family.now a.member _ (promised c.before.before) (omega (arith, c.if-family-lt-FAMILY_ENTRIES.false)) c.in-Refused.is c.refusal.ensures
+    let p = err_from_is_err_and c.from_residual-in_err-registered.result c.from_residual-in_err-registered.ensures.1 in
+    rw (p.1, p.2)
+    (register-refused a.family.now a.member _ (subst (λ f. RegisterContract f a.member c.register-registered.result) c.read_family.ensures c.register-registered.ensures)
+    ((long-decides _ _).passes.0 (sym c.in_ok-check_long.ensures)) c.in_err-registered.was)
+
+pub put_family-requires : goal.put_family-requires
+put_family-requires c = (long-decides _ _).passes.0 (sym c.in_ok-check_long.ensures)
+
+pub returns : goal.returns
+returns c =
+    let a = c.args in
+    register-done a.family.now a.member _ (subst (λ f. RegisterContract f a.member c.register-registered.result) c.read_family.ensures c.register-registered.ensures)
+    ((long-decides _ _).passes.0 (sym c.in_ok-check_long.ensures)) c.in_ok-registered.was c.put_family.ensures

@@ -1,6 +1,6 @@
 -- `block_tables::tables::put_list` meets its contract: the blocks before k stand in the buffer, the rest is as it was.
 use mathlib.Core.Path.{◌≡◌}
-use Prim.Native.Nat.{◌*◌, ◌-◌, ◌≤◌}
+use Prim.Native.Nat.{◌*◌, ◌-◌}
 use lib.ListN.{length}
 use Rattle.numbers.specs.Lists.{at, written}
 use Rattle.block_tables.specs.Tables.{table_bytes, list_table}
@@ -8,7 +8,4 @@ use Rattle.block_tables.proofs.tables.put_list.Given as goal
 
 abbrev pub invariant-loop-k : goal.invariant-loop-k
 invariant-loop-k l =
-    (l.k ≤ l.count) × (l.buffer ≡ written l.initial.buffer (512 * (l.from - 1)) (table_bytes list_table l.n (λ i j. at l.list i) l.from l.k)) × (length l.buffer ≡ length l.initial.buffer)
-
-abbrev pub decreases-loop-k : goal.decreases-loop-k
-decreases-loop-k l = l.count - l.k
+    (l.buffer ≡ written l.initial.buffer (512 * (l.from - 1)) (table_bytes list_table l.n (λ i j. at l.list i) l.from l.k)) × (length l.buffer ≡ length l.initial.buffer)

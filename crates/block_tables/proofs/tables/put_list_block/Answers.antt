@@ -15,5 +15,5 @@ returns c =
     let a = c.args in
     let b = a.from + a.k in
     let at = 512 * (b - 1) in
-    ap (λ vs. put_mid at (at + 512 - at) a.buffer.now vs) (c.fill_block.ensures ∙ ap (block_bytes b) (list-part a.n a.k _ a.list.now c.requires.3 c.least-last.ensures))
+    ap (λ vs. put_mid at (at + 512 - at) a.buffer.now vs) (c.fill_block.ensures ∙ ap (block_bytes b) (list-part a.n a.k _ a.list.now c.requires.3 c.min-last.ensures))
     ∙ put_back at (at + 512) a.buffer.now _ (omega (arith, length-block_bytes b (list_block a.n a.list.now a.k)))

@@ -1,10 +1,14 @@
--- `book::block::is_next` meets its contract: by the sign of the source.
-use native.Mathlib.Omega.{arith}
-use Rattle.book_spec.proofs.CodeLaws.{next-above, next-below}
+-- `book::block::is_next` meets its contract: the three numbers fit 64 bits, and so does the sum.
+use mathlib.Core.Path.{◌∙◌, subst}
+use Prim.Native.Nat.{◌^◌, ◌<◌}
+use lib.Signed.{mag}
+use mir.Syntax.{w32}
+use mir.ValLaws.{to_z-of_z}
+use Rattle.book_spec.proofs.CodeLaws.{next_is}
 use Rattle.book.proofs.block.is_next.Goals as goal
 
-pub returns-then-w-lt2147483648 : goal.returns-then-w-lt2147483648
-returns-then-w-lt2147483648 c = let a = c.args in next-above a.before a.word a.total c.if-w-lt2147483648.true
-
-pub returns-else-w-lt2147483648 : goal.returns-else-w-lt2147483648
-returns-else-w-lt2147483648 c = let a = c.args in next-below a.before a.word a.total c.if-w-lt2147483648.false (omega arith)
+pub returns : goal.returns
+returns c =
+    let a = c.args in
+    let w = c.word_signed in
+    next_is a.before a.total _ _ _ _ c.ranges.before.fits c.ranges.total.fits (subst (λ z. mag z < 2 ^ 31) w.ensures w.type_inv) c.from.ensures c.from-2.ensures (c.from-3.ensures ∙ to_z-of_z w32 w.result (record { sfits = w.type_inv }) ∙ w.ensures)

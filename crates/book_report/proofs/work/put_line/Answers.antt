@@ -11,4 +11,4 @@ returns c =
     let p = c.put_named-b.ensures in
     let q = c.put_named-c.ensures in
     let r = c.put_named.ensures in
-    (then (omega arith) (then (omega arith) (then (omega arith) o.0 p.0) q.0) r.0, omega (arith, o.1, p.1, q.1, r.1))
+    (then (omega arith) (then (omega arith) (then (omega arith) (rw c.from.ensures at o.0) p.0) q.0) (rw c.from-2.ensures at r.0), omega (arith, o.1, p.1, q.1, r.1))

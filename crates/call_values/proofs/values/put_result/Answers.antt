@@ -1,22 +1,7 @@
 -- `call_values::values::put_result` meets its contract: five stores in a row are one written part.
-use mathlib.Core.Path.{refl}
-use native.Mathlib.Omega.{arith}
-use lib.ListN.{length-set}
 use Rattle.numbers.proofs.PartLaws.{sets-written}
 use Rattle.call_values.specs.Values.{result_words}
 use Rattle.call_values.proofs.values.put_result.Goals as goal
 
-pub bounds-answer-1 : goal.bounds-answer-1
-bounds-answer-1 c = simp length-set (omega arith)
-
-pub bounds-answer-2 : goal.bounds-answer-2
-bounds-answer-2 c = simp length-set (omega arith)
-
-pub bounds-answer-3 : goal.bounds-answer-3
-bounds-answer-3 c = simp length-set (omega arith)
-
-pub bounds-answer-4 : goal.bounds-answer-4
-bounds-answer-4 c = simp length-set (omega arith)
-
 pub returns : goal.returns
-returns c = let s = c in (refl, sets-written (result_words s.args.repair s.args.book) s.args.answer.now 0 s.requires)
+returns c = rw (c.from.ensures, c.from-2.ensures) (sets-written (result_words c.args.repair c.args.book) c.args.answer.now 0 c.requires)

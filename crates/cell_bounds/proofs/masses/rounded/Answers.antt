@@ -9,10 +9,10 @@ most : (air ratio : ℕ) → ratio ≤ parts → air * ratio ≤ air * parts
 most air ratio r = mul-le-mul_left air r
 
 pub overflow_mul-product : goal.overflow_mul-product
-overflow_mul-product c = omega (arith, most c.args.air.0 c.args.ratio.0 c.requires.0, c.struct_known-1.given)
+overflow_mul-product c = omega (arith, most c.from.result c.from-2.result (omega arith))
 
 pub overflow_add-result : goal.overflow_add-result
-overflow_add-result c = omega (arith, most c.args.air.0 c.args.ratio.0 c.requires.0, c.struct_known-1.given)
+overflow_add-result c = omega (arith, most c.from.result c.from-2.result (omega arith))
 
 pub overflow_cast-result : goal.overflow_cast-result
-overflow_cast-result c = omega (arith, most c.args.air.0 c.args.ratio.0 c.requires.0, c.struct_known-1.given)
+overflow_cast-result c = omega (arith, most c.from.result c.from-2.result (omega arith))

@@ -10,7 +10,7 @@ use Rattle.cell_parts.proofs.parts.parts_between.Goals as goal
 
 pub returns : goal.returns
 returns c =
-    let z = at_ℤ c.args.targets.now c.args.cell in
+    let z = at_ℤ c.args.in_force.now.targets.now c.args.cell in
     let e : to_z w32 (of_z w32 z) ≡ z = to_z-of_z w32 z (record { sfits = c.parts_by-arg-1.given }) in
     let t = c.node_stages-found.result in
     c.parts_by.ensures

@@ -1,5 +1,5 @@
 -- `cell_parts::parts::parts_by` meets its contract: the three differences fit 64 bits.
-use mathlib.Core.Path.{◌≡◌, ◌∙◌, ap, ap₂}
+use mathlib.Core.Path.{◌≡◌, ◌∙◌, ap}
 use native.Mathlib.Omega.{arith}
 use lib.IntN.{ℤ, pos, ◌-ℤ◌}
 use mir.Syntax.{w32, w64}
@@ -21,7 +21,7 @@ returns c =
     let a = c.args in
     let p = c.requires in
     parts-path _ _
-    (as_is (pos a.clip -ℤ a.target) (c.minus-clipping.ensures ∙ ap₂ (λ m z. pos m -ℤ z) c.narrow.ensures (to_z-of_z w32 a.target c.ranges.target))
+    (as_is (pos a.clip -ℤ a.target) (c.minus-clipping.ensures ∙ ap (λ z. pos a.clip -ℤ z) (to_z-of_z w32 a.target c.ranges.target))
     (correction-fits a.clip a.target (omega (arith, p.0)) c.ranges.target.sfits))
     (as_is (pos a.first -ℤ pos a.clip) c.difference-first_share.ensures (sub-fits a.first a.clip (omega (arith, p.1)) (omega (arith, p.0))))
     (as_is (pos a.both -ℤ pos a.first) c.difference-second_share.ensures (sub-fits a.both a.first (omega (arith, p.2)) (omega (arith, p.1))))

@@ -5,7 +5,7 @@ use native.Mathlib.Nat.{mod-le}
 use native.Mathlib.Omega.{arith}
 use lib.Pow.{pow_pos}
 use Rattle.doubles_spec.specs.declared.Rest.{Rest}
-use Rattle.doubles_spec.specs.declared.Product.TheVariants.{Finite}
+use Rattle.doubles_spec.specs.Forms.{product_of}
 use Rattle.doubles_spec.proofs.Fractions.{large, shifted, tiny, read_at, unit-is}
 use Rattle.double_fields.proofs.cases.digits_at.Goals as goal
 
@@ -33,5 +33,5 @@ returns c =
     let a = c.args in
     let j = 1075 - a.place in
     let u = 1 * 2 ^ j % 2 ^ 64 in
-    ap (λ (r : Rest). Finite a.negative (a.digits / u) r) c.rest_by-rest.ensures
+    ap (λ (r : Rest). product_of a.negative (a.digits / u) r) c.rest_by-rest.ensures
     ∙ read_at a.negative a.digits a.place (omega arith) (omega arith) u (unit-is j (omega arith)) (omega arith)

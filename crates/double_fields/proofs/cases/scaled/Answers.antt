@@ -5,7 +5,7 @@ use lib.Ieee.{Float}
 use Rattle.doubles_spec.specs.Classes.{InClass}
 use Rattle.doubles_spec.specs.declared.Class.{Class}
 use Rattle.doubles_spec.specs.declared.Rest.TheVariants.{LessThanHalf}
-use Rattle.doubles_spec.specs.declared.Product.TheVariants.{Finite}
+use Rattle.doubles_spec.specs.Forms.{product_of}
 use Rattle.doubles_spec.proofs.CaseLaws.{zero-product, subnormal-product, infinity-product, nan-product, below-zero}
 use Rattle.double_fields.proofs.cases.scaled.Goals as goal
 
@@ -23,7 +23,7 @@ pub returns-in-Subnormal : goal.returns-in-Subnormal
 returns-in-Subnormal c =
     let z = c in
     let x = z.args.x in
-    ap (λ (s : Bool). Finite s 0 LessThanHalf) (below-zero x) ∙ sym (subnormal-product z.args.k x z.requires (arm c.args.x c.class_of.ensures c.in-Subnormal.is))
+    ap (λ (s : Bool). product_of s 0 LessThanHalf) (below-zero x) ∙ sym (subnormal-product z.args.k x z.requires (arm c.args.x c.class_of.ensures c.in-Subnormal.is))
 
 pub returns-in-Infinity : goal.returns-in-Infinity
 returns-in-Infinity c = let z = c.args in sym (infinity-product z.k z.x (arm c.args.x c.class_of.ensures c.in-Infinity.is))

@@ -1,4 +1,5 @@
 -- `double_fields::fields::in_target` meets its contract: its tests are those of `in_target`, and -1 - (q - 1) is minus q.
+use Rattle.std.specs.Prelude.{Ok}
 use mathlib.Core.Path.{sym, ap, ◌∙◌}
 use mathlib.Core.Bool.{Bool, true}
 use Prim.Native.Nat.{ℕ, ◌-◌, ◌<◌, ◌^◌}
@@ -7,7 +8,6 @@ use mir.Syntax.{w32}
 use mir.ValLaws.{to_z_pos}
 use Rattle.doubles_spec.specs.Forms.{in_target}
 use Rattle.numbers.specs.Roundings.{signed}
-use Rattle.doubles_spec.specs.declared.TargetField.{TargetField}
 use Rattle.doubles_spec.proofs.FieldLaws.{in-range, out_of_range, minus-fits, minus-back, minus-signed}
 use Rattle.double_fields.proofs.fields.in_target.Goals as goal
 
@@ -24,7 +24,7 @@ returns-then-q-le2147483648 c =
     let a = c.args in
     let n = a.q - 1 in
     let l : n < 2 ^ 31 = omega (arith, c.if-q-eq0.false) in
-    ap TargetField.Units (minus-back n l)
+    ap Ok (minus-back n l)
     ∙ sym (ap (λ (s : Bool). in_target (signed s a.q)) c.if-negative.true ∙ ap in_target (minus-signed a.q c.if-q-eq0.false) ∙ in-range n _ _ l)
 
 pub returns-else-q-le2147483648 : goal.returns-else-q-le2147483648
@@ -35,7 +35,7 @@ returns-else-q-le2147483648 c =
 pub returns-then-q-lt2147483648 : goal.returns-then-q-lt2147483648
 returns-then-q-lt2147483648 c =
     let a = c.args in
-    ap TargetField.Units (to_z_pos w32 a.q c.if-q-lt2147483648.true) ∙ sym (ap (λ (s : Bool). in_target (signed s a.q)) c.if-negative.false ∙ in-range a.q _ _ c.if-q-lt2147483648.true)
+    ap Ok (to_z_pos w32 a.q c.if-q-lt2147483648.true) ∙ sym (ap (λ (s : Bool). in_target (signed s a.q)) c.if-negative.false ∙ in-range a.q _ _ c.if-q-lt2147483648.true)
 
 pub returns-else-q-lt2147483648 : goal.returns-else-q-lt2147483648
 returns-else-q-lt2147483648 c =

@@ -5,4 +5,4 @@ use Rattle.doubles_spec.proofs.Patterns.{pattern-no-nan}
 use Rattle.doubles_test.proofs.input.double.Goals as goal
 
 pub float_from_bits-result : goal.float_from_bits-result
-float_from_bits-result c = pattern-no-nan binary64 c.args.bits (omega arith)
+float_from_bits-result c = pattern-no-nan binary64 c.unsigned-bits.result (omega arith)

@@ -1,12 +1,8 @@
 -- `family_calls::list::put_members` meets its contract: the entries of the members passed are written behind the first three.
 use mathlib.Core.Path.{◌≡◌}
-use Prim.Native.Nat.{◌≤◌, ◌-◌}
 use Rattle.numbers.specs.Lists.{written}
 use Rattle.family_calls.specs.List.{members_words}
 use Rattle.family_calls.proofs.list.put_members.Given as goal
 
 abbrev pub invariant-loop-i : goal.invariant-loop-i
-invariant-loop-i l = (l.i ≤ 8) × (l.list ≡ written l.initial.list 3 (members_words l.family l.i))
-
-abbrev pub decreases-loop-i : goal.decreases-loop-i
-decreases-loop-i l = 8 - l.i
+invariant-loop-i l = l.list ≡ written l.initial.list 3 (members_words l.fn.family l.i)

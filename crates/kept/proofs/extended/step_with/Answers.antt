@@ -1,42 +1,53 @@
 -- `kept::extended::step_with` meets its contract: what it leaves and tells go by the verdict, which passes only where Step fits.
-use mathlib.Core.Path.{◌≡◌, sym, ◌∙◌, subst}
+use Rattle.std.proofs.Common.{rules}
 use mathlib.Core.List.{[], ◌∷◌}
-use lib.IntN.{ℤ}
 use mir.Syntax.{w32}
-use mir.Val.{to_z, of_z}
 use mir.ValLaws.{to_z-of_z}
-use Rattle.qlt_spec.specs.Field.{lists}
-use Rattle.kept_spec.specs.Step.{StepCall, step_call, step_verdict_with, StepBy}
-use Rattle.kept_spec.proofs.StepLaws.{with-fits}
+use Rattle.std.proofs.lemmas.Result.{err_from_is_err_and}
+use Rattle.numbers.proofs.CheckLaws.{answered-accepted, answered-refused}
+use Rattle.qlt_spec.specs.Field.{lists_of}
+use Rattle.blocks.specs.Words.{Bytes}
+use Rattle.kept_spec.specs.Step.{step_call, new_total, step_verdict_with}
+use Rattle.kept_spec.proofs.StepLaws.{with-fits, fits-repair, failed-promised}
+use Rattle.kept.proofs.StepLaws.{typed-of, fits-book, step-done}
 use Rattle.kept.proofs.extended.step_with.Goals as goal
-use Rattle.kept.proofs.extended.step_with.Lts as lts
-use Rattle.kept.proofs.extended.step_with.Tie as tie
-use Rattle.kept.proofs.extended.step_with.Reads as reads
 
--- places in the code at which no goal stands
-abbrev Start : Type 0
-Start = lts.Start tie.the-claims reads.Pre reads.Post
-
-abbrev given_at : Start → ℤ → StepCall
-given_at c source =
+pub returns-in_err-total : goal.returns-in_err-total
+unfolding step_verdict_with
+returns-in_err-total c =
     let a = c.args in
-    step_call a.balance a.kept.now source a.scale
-    (lists a.targets.now a.lows.now a.highs.now a.safe_lows.now a.safe_highs.now a.weights.now a.parents.now) a.scratch.now
-    a.book.now a.told
+    let g = step_call a.balance a.kept.now a.source a.scale (lists_of a.field.now) a.scratch.now a.book.now a.told in
+    let y : Bytes a.book.now = λ i. search rules in
+    let told = rw (to_z-of_z w32 a.source c.ranges.source) at c.in_err-total.ensures in
+    let p = err_from_is_err_and c.from_residual.result c.from_residual.ensures.1 in
+    rw (p.1, p.2) (failed-promised g (typed-of g y c.ranges.source) (answered-refused (step_verdict_with (a.own ∷ []) g) (new_total g) _ _ told))
 
--- the source as it is handed on
-source_is : (c : Start) → to_z w32 (of_z w32 c.args.source) ≡ c.args.source
-source_is c = to_z-of_z w32 c.args.source c.ranges.source
+pub repaired-repair-requires : goal.repaired-repair-requires
+unfolding step_verdict_with
+repaired-repair-requires c =
+    let a = c.args in
+    let g = step_call a.balance a.kept.now a.source a.scale (lists_of a.field.now) a.scratch.now a.book.now a.told in
+    let told = rw (to_z-of_z w32 a.source c.ranges.source) at c.in_ok-total.ensures in
+    let p = answered-accepted (step_verdict_with (a.own ∷ []) g) c.in_ok-total.total (new_total g) told in
+    rw p.1 (fits-repair g (with-fits g a.own p.0))
 
-pub step_by-requires : goal.step_by-requires
-step_by-requires c = λ e. with-fits _ _ (sym c.step_verdict-verdict.ensures ∙ e)
+pub add_record-length-requires : goal.add_record-length-requires
+unfolding step_verdict_with
+add_record-length-requires c =
+    let a = c.args in
+    let g = step_call a.balance a.kept.now a.source a.scale (lists_of a.field.now) a.scratch.now a.book.now a.told in
+    let y : Bytes a.book.now = λ i. search rules in
+    let told = rw (to_z-of_z w32 a.source c.ranges.source) at c.in_ok-total.ensures in
+    fits-book g y (with-fits g a.own (answered-accepted (step_verdict_with (a.own ∷ []) g) c.in_ok-total.total (new_total g) told).0)
 
 pub returns : goal.returns
+unfolding step_verdict_with
 returns c =
-    let s = c.before.before.before.before.before.before.before.before.before.before.before.before.before.before.before.before.before.before.before in
-    let done = c.step_by in
-    let kept = done.new.kept in
-    let scratch = done.new.scratch in
-    let book = done.new.book in
-    subst (λ (z : ℤ). StepBy (step_verdict_with (s.args.own ∷ []) (given_at s z)) (given_at s z) done.result kept scratch book) (source_is s)
-    (subst (λ v. StepBy v (given_at s (to_z w32 (of_z w32 s.args.source))) done.result kept scratch book) c.step_verdict-verdict.ensures done.ensures)
+    let a = c.args in
+    let g = step_call a.balance a.kept.now a.source a.scale (lists_of a.field.now) a.scratch.now a.book.now a.told in
+    let y : Bytes a.book.now = λ i. search rules in
+    let told = rw (to_z-of_z w32 a.source c.ranges.source) at c.in_ok-total.ensures in
+    let p = answered-accepted (step_verdict_with (a.own ∷ []) g) c.in_ok-total.total (new_total g) told in
+    let repair = rw p.1 at c.repaired-repair.ensures in
+    let filed = rw (to_z-of_z w32 a.source c.ranges.source, p.1) at c.add_record-length.ensures in
+    rw p.1 (step-done g (typed-of g y c.ranges.source) c.repaired-repair.result c.add_record-length.result p.0 repair filed.0 filed.1)

@@ -1,5 +1,5 @@
 -- `legzhuro_c::returns::put_deficit` meets its contract: one store is a written part.
-use mathlib.Core.Path.{refl, ◌∙◌, ap}
+use mathlib.Core.Path.{◌∙◌, ap}
 use mathlib.Core.List.{[], ◌∷◌}
 use lib.IntN.{ℤ}
 use mir.Syntax.{w64}
@@ -12,4 +12,4 @@ use Rattle.legzhuro_c.proofs.returns.put_deficit.Goals as goal
 pub returns : goal.returns
 returns c =
     let a = c.args in
-    (refl, sets-written (to_z w64 (of_z w64 a.d) ∷ []) a.deficit.now 0 c.requires ∙ ap (λ (z : ℤ). written a.deficit.now 0 (z ∷ [])) (to_z-of_z w64 a.d c.ranges.d))
+    sets-written (to_z w64 (of_z w64 a.d) ∷ []) a.deficit.now 0 c.requires ∙ ap (λ (z : ℤ). written a.deficit.now 0 (z ∷ [])) (to_z-of_z w64 a.d c.ranges.d)

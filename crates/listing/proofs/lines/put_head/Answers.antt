@@ -11,6 +11,6 @@ returns c =
     let q = c.put_named-b in
     let r = c.put_named-c in
     let s = c.put_named in (
-      then (omega arith) (then (omega arith) (then (omega arith) p.ensures.0 q.ensures.0) r.ensures.0) s.ensures.0,
+      then (omega arith) (then (omega arith) (then (omega arith) (rw c.from.ensures at p.ensures.0) q.ensures.0) (rw c.from-2.ensures at r.ensures.0)) s.ensures.0,
       omega (arith, p.ensures.1, q.ensures.1, r.ensures.1, s.ensures.1),
     )

@@ -18,4 +18,4 @@ returns c =
     let p = c.put_named_signed-b.ensures in
     let q = c.put_named_signed-c.ensures in
     let r = c.put_named_signed.ensures in
-    (then (omega arith) (then (omega arith) (then (omega arith) o.0 (rw d at p.0)) (rw e at q.0)) (rw f at r.0), omega (arith, o.1, p.1, q.1, r.1))
+    (then (omega arith) (then (omega arith) (then (omega arith) (rw c.from.ensures at o.0) (rw d at p.0)) (rw e at q.0)) (rw f at r.0), omega (arith, o.1, p.1, q.1, r.1))

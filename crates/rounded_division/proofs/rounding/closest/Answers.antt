@@ -5,7 +5,7 @@ use native.Mathlib.Nat.{mod-le, div-le_self}
 use native.Mathlib.Omega.{arith}
 use Rattle.doubles_spec.specs.Forms.{added_nearest}
 use Rattle.doubles_spec.specs.declared.Rest.{Rest}
-use Rattle.doubles_spec.proofs.FieldLaws.{nearest-le, closest-is}
+use Rattle.doubles_spec.proofs.FieldLaws.{nearest_le, closest-is}
 use Rattle.rounded_division.proofs.rounding.closest.Goals as goal
 
 pub rest_by-rest-requires : goal.rest_by-rest-requires
@@ -14,7 +14,7 @@ rest_by-rest-requires c = omega (arith, mod-le c.args.size c.args.unit)
 pub overflow_add-result : goal.overflow_add-result
 overflow_add-result c =
     let a = c.args in
-    let one : c.added_nearest.result ≤ 1 = subst (λ (n : ℕ). n ≤ 1) (sym c.added_nearest.ensures) (nearest-le _ _) in
+    let one : c.added_nearest.result ≤ 1 = subst (λ (n : ℕ). n ≤ 1) (sym c.added_nearest.ensures) (nearest_le _ _) in
     omega (arith, one, div-le_self a.size a.unit)
 
 pub returns : goal.returns

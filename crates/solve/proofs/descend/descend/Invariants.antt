@@ -7,7 +7,4 @@ use Rattle.solve_spec.specs.Descent.{DescendState}
 use Rattle.solve.proofs.descend.descend.Given as goal
 
 abbrev pub invariant-loop-v : goal.invariant-loop-v
-invariant-loop-v l = DescendState (at l.parents) l.m l.initial.s l.v l.s l.shared × (l.k ≤ l.v)
-
-abbrev pub decreases-loop-v : goal.decreases-loop-v
-decreases-loop-v l = l.v
+invariant-loop-v l = record { state : DescendState (at l.parents) l.m l.initial.s l.v l.s l.shared; from : l.k ≤ l.v }

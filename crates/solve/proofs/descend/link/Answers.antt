@@ -16,31 +16,31 @@ bounds-parents-u c = omega (arith, c.loop-u.invariant.within)
 
 pub get_above-first-requires : goal.get_above-first-requires
 get_above-first-requires c =
-    parent_row c.requires.valid c.requires.m_in_bounds_2 c.loop-u.invariant c.loop-u-test.true c.wide-parent.ensures refl
+    parent_row c.requires.valid c.requires.m_in_bounds_2 c.loop-u.invariant (omega arith) refl refl
 
 pub put-requires : goal.put-requires
 put-requires c =
     let r = c.requires in (
-      node_row r.valid r.m_in_bounds_2 c.loop-u.invariant c.loop-u-test.true,
+      node_row r.valid r.m_in_bounds_2 c.loop-u.invariant (omega arith),
       c.get_above-first.ensures.1,
-      λ j. omega (arith, r.m_bound, first-most r.valid r.m_in_bounds_2 c.loop-u.invariant c.loop-u-test.true c.wide-parent.ensures c.get_above-first.ensures.0),
+      λ j. omega (arith, r.m_bound, first-most r.valid r.m_in_bounds_2 c.loop-u.invariant (omega arith) refl c.get_above-first.ensures.0),
     )
 
 pub put-requires-in-loop-u : goal.put-requires-in-loop-u
 put-requires-in-loop-u c =
     let r = c.requires in (
-      parent_row r.valid r.m_in_bounds_2 c.loop-u.invariant c.loop-u-test.true c.wide-parent.ensures c.put.ensures.long,
+      parent_row r.valid r.m_in_bounds_2 c.loop-u.invariant (omega arith) refl c.put.ensures.long,
       omega (arith, c.loop-u.invariant.within, r.m_bound),
-      λ j. omega (arith, c.loop-u.invariant.within, r.m_bound, c.stored_index.ensures),
+      λ j. omega (arith, c.loop-u.invariant.within, r.m_bound),
     )
 
 pub loop-u-preserved : goal.loop-u-preserved
 loop-u-preserved c =
     let r = c.requires in
-    link-turn r.valid r.m_in_bounds_2 c.loop-u.invariant c.loop-u-test.true
-    c.wide-parent.ensures
+    link-turn r.valid r.m_in_bounds_2 c.loop-u.invariant (omega arith)
+    refl
     c.get_above-first.ensures.0
-    c.stored_index.ensures
+    refl
     c.put.ensures
     c.put-in-loop-u.ensures
 
@@ -49,5 +49,5 @@ shape_of-s c = c.loop-u.invariant.same.long
 
 pub returns : goal.returns
 returns c =
-    let e = link-end c.loop-u.invariant c.loop-u-test.false in
+    let e = link-end c.loop-u.invariant (omega arith) in
     record { linked = e.0; same_data = e.1 }

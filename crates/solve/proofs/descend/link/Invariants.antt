@@ -6,6 +6,3 @@ use Rattle.solve.proofs.descend.link.Given as goal
 
 abbrev pub invariant-loop-u : goal.invariant-loop-u
 invariant-loop-u l = LinkState (at l.parents) l.m l.initial.s l.u l.s
-
-abbrev pub decreases-loop-u : goal.decreases-loop-u
-decreases-loop-u l = l.u

@@ -14,5 +14,5 @@ returns c =
     let f = c.ranges in
     let m = c.minus in
     let d : pos a.mass -ℤ to_z w32 (of_z w32 a.target) ≡ pos a.mass -ℤ a.target = ap (λ t. pos a.mass -ℤ t) (to_z-of_z w32 a.target f.target) in
-    let e = c.magnitude.ensures ∙ ap nat_abs (to_z-of_z w64 m.result (record { sfits = m.type_inv }) ∙ (m.ensures ∙ d)) in
+    let e = c.unsigned_abs.ensures.value ∙ ap nat_abs (to_z-of_z w64 m.result (record { sfits = m.type_inv }) ∙ (m.ensures ∙ d)) in
     (e, omega (arith, e, off-size a.mass a.target f.mass.fits f.target.sfits))

@@ -1,13 +1,8 @@
 -- `solve::load::take_out` meets its contract: the masses of the rows passed are written over the list.
 use mathlib.Core.Path.{◌≡◌}
-use Prim.Native.Nat.{◌-◌, ◌≤◌}
-use lib.ListN.{length}
 use Rattle.numbers.specs.Lists.{list_to, written}
 use Rattle.scratch_spec.specs.Columns.{MASS, num}
 use Rattle.solve.proofs.load.take_out.Given as goal
 
 abbrev pub invariant-loop-u : goal.invariant-loop-u
-invariant-loop-u l = (l.u ≤ length l.initial.masses) × (length l.masses ≡ length l.initial.masses) × (l.masses ≡ written l.initial.masses 0 (list_to l.u (λ w. num MASS l.s w)))
-
-abbrev pub decreases-loop-u : goal.decreases-loop-u
-decreases-loop-u l = length l.initial.masses - l.u
+invariant-loop-u l = l.masses ≡ written l.initial.masses 0 (list_to l.u (λ w. num MASS l.s w))

@@ -22,7 +22,7 @@ of-all {up} {m} {u} {x} {y} {z} {s} {t} h w = subst (λ k. ChildWatched up k u s
 
 pub child_stages-stages-requires : goal.child_stages-stages-requires
 child_stages-stages-requires c =
-    let n = length c.args.targets.now in record { u_lt_root = (c.requires.u_in_bounds, omega (arith, root_in c.requires.solvable)); by_index = (n, up-to-root (root_in c.requires.solvable) (descending c.requires.solvable c.prepare.ensures)) }
+    let n = length c.args.in_force.now.targets.now in record { u_lt_root = (c.requires.u_in_bounds, omega (arith, root_in c.requires.solvable)); by_index = (n, up-to-root (root_in c.requires.solvable) (descending c.requires.solvable c.prepare.ensures)) }
 
 pub returns : goal.returns
 returns c =

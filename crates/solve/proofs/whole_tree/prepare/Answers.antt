@@ -8,14 +8,14 @@ pub load-requires : goal.load-requires
 load-requires c =
     let a = c.args in
     let ok = c.requires in
-    record { m_in_bounds = omega arith; valid = valid-for ok a.lows.now ok.lows_long; m_in_bounds_2 = (omega (arith, ok.size, c.load_targets.ensures.kept.long), omega arith); xs_bound = lows-small ok }
+    record { m_in_bounds = omega arith; valid = valid-for ok a.in_force.now.lows.now ok.lows_long; m_in_bounds_2 = omega (arith, ok.size, c.load_targets.ensures.kept.long); xs_bound = lows-small ok }
 
 pub load-requires-2 : goal.load-requires-2
 load-requires-2 c =
     let a = c.args in
     let ok = c.requires in
     let long = c.load.ensures.kept.long in
-    record { m_in_bounds = omega arith; valid = valid-for ok a.highs.now ok.highs_long; m_in_bounds_2 = (omega (arith, ok.size, c.load_targets.ensures.kept.long, long), omega arith); xs_bound = highs-small ok }
+    record { m_in_bounds = omega arith; valid = valid-for ok a.in_force.now.highs.now ok.highs_long; m_in_bounds_2 = omega (arith, ok.size, c.load_targets.ensures.kept.long, long); xs_bound = highs-small ok }
 
 pub load-requires-3 : goal.load-requires-3
 load-requires-3 c =
@@ -23,7 +23,7 @@ load-requires-3 c =
     let ok = c.requires in
     let long = c.load_targets.ensures.kept.long in
     let long₂ = c.load.ensures.kept.long in
-    record { m_in_bounds = omega arith; valid = valid-for ok a.weights.now ok.weights_long; m_in_bounds_2 = (omega (arith, ok.size, long, long₂, c.load-2.ensures.kept.long), omega arith); xs_bound = weights-small ok }
+    record { m_in_bounds = omega arith; valid = valid-for ok a.in_force.now.weights.now ok.weights_long; m_in_bounds_2 = omega (arith, ok.size, long, long₂, c.load-2.ensures.kept.long); xs_bound = weights-small ok }
 
 pub overflow_sub-m : goal.overflow_sub-m
 overflow_sub-m c = omega (arith, root_in c.requires)
@@ -45,6 +45,6 @@ returns c =
     c.load.ensures
     c.load-2.ensures
     c.load-3.ensures
-    c.stored_index.ensures
+    refl
     c.fill_with.ensures
     c.put.ensures

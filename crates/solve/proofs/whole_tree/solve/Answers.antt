@@ -6,7 +6,7 @@ use Rattle.solve.proofs.whole_tree.solve.Goals as goal
 
 pub descend-shared-requires : goal.descend-shared-requires
 descend-shared-requires c =
-    record { k_le_m = (c.requires.solvable.valid.room, omega arith); by_index = (length c.args.targets.now, (omega arith, descending c.requires.solvable c.prepare.ensures)) }
+    record { k_le_m = (c.requires.solvable.valid.room, omega arith); by_index = (length c.args.in_force.now.targets.now, (omega arith, descending c.requires.solvable c.prepare.ensures)) }
 
 pub take_out-requires : goal.take_out-requires
 take_out-requires c =

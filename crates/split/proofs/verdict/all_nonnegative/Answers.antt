@@ -1,31 +1,42 @@
--- `split::verdict::all_nonnegative` meets its contract: the answer is that of the places from u on.
-use mathlib.Core.Path.{sym, ◌∙◌}
+-- `split::verdict::all_nonnegative` meets its contract: the answer is that of the places from the index on.
+use mathlib.Core.Path.{◌≡◌, refl, sym, ◌∙◌, ap}
+use mathlib.Core.Bool.{true, false}
 use native.Mathlib.Nat.{sub-zero}
 use native.Mathlib.Omega.{arith}
+use lib.IntN.{ℤ, pos, negsuc}
+use lib.Signed.{lt_z, le_z}
 use lib.ListN.{length}
+use Rattle.numbers.specs.Lists.{at_ℤ}
+use borrow.Author.Tests.{le-leb}
+use Rattle.numbers.proofs.SignedLaws.{read_back, lt_z-true, lt_z-false}
 use Rattle.numbers.proofs.CheckLaws.{every-on, every_here, every-none}
 use Rattle.split.proofs.verdict.all_nonnegative.Goals as goal
 
-pub loop-u-init : goal.loop-u-init
-loop-u-init c = (omega arith, rw sub-zero)
+-- a number is below 0, or 0 is at most the number
+below : (x : ℤ) → lt_z x (pos 0) ≡ true → le_z (pos 0) x ≡ false
+below (pos n) e = absurd (omega (arith, lt_z-true (pos n) (pos 0) e))
+below (negsuc n) e = refl
 
-pub nonnegative_at-requires : goal.nonnegative_at-requires
-nonnegative_at-requires c = omega arith
+not_below : (x : ℤ) → lt_z x (pos 0) ≡ false → le_z (pos 0) x ≡ true
+not_below (pos n) e = le-leb 0 n (omega arith)
+not_below (negsuc n) e = absurd (omega (arith, lt_z-false (negsuc n) (pos 0) e))
 
-pub returns-then-not-nonnegative_at : goal.returns-then-not-nonnegative_at
-returns-then-not-nonnegative_at c = let xs = c.args.xs.now in
-    sym (c.loop-u.invariant.1 ∙ every_here _ c.loop-u.u (length xs) c.loop-u-test.true (sym c.nonnegative_at.ensures ∙ c.if-not-nonnegative_at.true))
+pub loop-x-init : goal.loop-x-init
+loop-x-init c = rw sub-zero
 
-pub overflow_add-u : goal.overflow_add-u
-overflow_add-u c = omega arith
+pub returns-then-x-lt0 : goal.returns-then-x-lt0
+returns-then-x-lt0 c =
+    let xs = c.args.xs.now in
+    let u = c.loop-x.x-index in
+    let x = read_back (at_ℤ xs u) (omega arith) in
+    sym (c.loop-x.invariant ∙ every_here _ u (length xs) (omega arith) (below (at_ℤ xs u) (ap (λ z. lt_z z (pos 0)) (sym x) ∙ c.if-x-lt0.true)))
 
-pub loop-u-smaller : goal.loop-u-smaller
-loop-u-smaller c = omega arith
-
-pub loop-u-preserved : goal.loop-u-preserved
-loop-u-preserved c = let xs = c.args.xs.now in
-    (omega arith, c.loop-u.invariant.1 ∙ every-on _ c.loop-u.u (length xs) c.loop-u-test.true (sym c.nonnegative_at.ensures ∙ c.if-not-nonnegative_at.false))
+pub loop-x-preserved : goal.loop-x-preserved
+loop-x-preserved c =
+    let xs = c.args.xs.now in
+    let u = c.loop-x.x-index in
+    let x = read_back (at_ℤ xs u) (omega arith) in
+    c.loop-x.invariant ∙ every-on _ u (length xs) (omega arith) (not_below (at_ℤ xs u) (ap (λ z. lt_z z (pos 0)) (sym x) ∙ c.if-x-lt0.false))
 
 pub returns : goal.returns
-returns c = let xs = c.args.xs.now in
-    sym (c.loop-u.invariant.1 ∙ every-none _ c.loop-u.u (length xs) c.loop-u-test.false)
+returns c = let xs = c.args.xs.now in sym (c.loop-x.invariant ∙ every-none _ c.loop-x.x-index (length xs) (omega arith))

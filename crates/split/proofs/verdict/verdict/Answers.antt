@@ -1,32 +1,27 @@
 -- `split::verdict::verdict` meets its contract: the checks of lengths, then those of values.
-use mathlib.Core.Path.{sym, ◌∙◌, ap₂}
+use Rattle.std.specs.Prelude.{Ok}
+use mathlib.Core.Path.{◌≡◌, refl, sym, ◌∙◌, ap₂}
+use Prim.Native.Nat.{ℕ, ◌≤◌}
 use native.Mathlib.Omega.{arith}
-use lib.ListN.{length}
 use mir.Syntax.{w64}
 use mir.ValLaws.{to_z-of_z}
-use Rattle.numbers.specs.Checks.{first}
-use Rattle.numbers.proofs.CheckLaws.{on, stop, first-append}
-use Rattle.caas_spec.specs.Operation.{split_shape_checks, split_value_checks, split_verdict}
+use Rattle.numbers.specs.Checks.{first, check_count}
+use Rattle.numbers.proofs.CheckLaws.{on}
+use Rattle.caas_spec.specs.Operation.{check_lengths, split_value_checks, split_verdict}
 use Rattle.caas_spec.proofs.OperationLaws.{shape-passed}
 use Rattle.split.proofs.verdict.verdict.Goals as goal
 
-pub returns-in-Fail : goal.returns-in-Fail
-unfolding split_verdict
-returns-in-Fail c =
-    let a = c.args in
-    stop _ (sym c.shape_checks-shape.ensures ∙ c.in-Fail.is)
-    ∙ first-append (split_shape_checks (length a.targets.now) (length a.lows.now) (length a.highs.now) (length a.weights.now) (length a.masses.now))
-    (split_value_checks (length a.targets.now) a.lows.now a.highs.now a.weights.now a.total)
+-- what the two checks of lengths leave
+passed : {n l h w m : ℕ} → Ok tt ≡ check_count n → Ok tt ≡ check_lengths n l h w m → (n ≤ 512) × ((l ≡ n) × ((h ≡ n) × ((w ≡ n) × (m ≡ n))))
+passed {n} {l} {h} {w} {m} e f = shape-passed n l h w m (sym (on (sym e) (on (sym f) refl)))
 
 pub value_checks-requires : goal.value_checks-requires
-value_checks-requires c = let l = shape-passed _ _ _ _ _ (sym c.shape_checks-shape.ensures ∙ c.in_default.is) in (omega arith, omega arith, omega arith)
+value_checks-requires c = let l = passed c.in_ok-check_count.ensures c.in_ok-check_lengths.ensures in (omega arith, omega arith, omega arith)
 
 pub returns : goal.returns
 unfolding split_verdict
 returns c =
     let a = c.args in
-    let l = shape-passed _ _ _ _ _ (sym c.shape_checks-shape.ensures ∙ c.in_default.is) in
-    on (sym c.shape_checks-shape.ensures ∙ c.in_default.is)
-    (c.value_checks.ensures ∙ ap₂ (λ k z. first (split_value_checks k a.lows.now a.highs.now a.weights.now z)) l.1.0 (to_z-of_z w64 a.total c.ranges.total))
-    ∙ first-append (split_shape_checks (length a.targets.now) (length a.lows.now) (length a.highs.now) (length a.weights.now) (length a.masses.now))
-    (split_value_checks (length a.targets.now) a.lows.now a.highs.now a.weights.now a.total)
+    let l = passed c.in_ok-check_count.ensures c.in_ok-check_lengths.ensures in
+    on (sym c.in_ok-check_count.ensures) (on (sym c.in_ok-check_lengths.ensures)
+    (c.value_checks.ensures ∙ ap₂ (λ k z. first (split_value_checks k a.lows.now a.highs.now a.weights.now z)) l.1.0 (to_z-of_z w64 a.total c.ranges.total)))

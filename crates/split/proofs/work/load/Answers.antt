@@ -24,22 +24,22 @@ above-is : (c : goal.After-above) → c.above.result ≡ over c.args.total
 above-is c = c.above.ensures ∙ ap over (to_z-of_z w64 c.args.total c.ranges.total)
 
 pub fill-requires : goal.fill-requires
-fill-requires c = let s = c in (omega arith, omega (arith, s.requires.width_in_bounds), λ u l. storable-mass _)
+fill-requires c = let s = c in (omega (arith, s.requires.width_in_bounds), λ u l. storable-mass _)
 
 pub fill-requires-2 : goal.fill-requires-2
 fill-requires-2 c =
     let s = c in
-    (omega arith, omega (arith, s.requires.width_in_bounds, s.requires.targets_len_bound, c.fill.ensures.kept.long), λ u l. storable-any LOW (s.requires.all_storable.0.each u l))
+    (omega (arith, s.requires.width_in_bounds, s.requires.targets_len_bound, c.fill.ensures.kept.long), λ u l. storable-any LOW (s.requires.all_storable.0.each u l))
 
 pub fill-requires-3 : goal.fill-requires-3
 fill-requires-3 c =
     let s = c in
-    (omega arith, omega (arith, s.requires.width_in_bounds, s.requires.targets_len_bound, c.fill.ensures.kept.long, c.fill-2.ensures.kept.long), λ u l. storable-any HIGH (s.requires.all_storable.1.each u l))
+    (omega (arith, s.requires.width_in_bounds, s.requires.targets_len_bound, c.fill.ensures.kept.long, c.fill-2.ensures.kept.long), λ u l. storable-any HIGH (s.requires.all_storable.1.each u l))
 
 pub fill-requires-4 : goal.fill-requires-4
 fill-requires-4 c =
     let s = c in
-    (omega arith, omega (arith, s.requires.width_in_bounds, s.requires.targets_len_bound, c.fill.ensures.kept.long, c.fill-2.ensures.kept.long, c.fill-3.ensures.kept.long), λ u l. storable-any WEIGHT (s.requires.all_storable.2.each u l))
+    (omega (arith, s.requires.width_in_bounds, s.requires.targets_len_bound, c.fill.ensures.kept.long, c.fill-2.ensures.kept.long, c.fill-3.ensures.kept.long), λ u l. storable-any WEIGHT (s.requires.all_storable.2.each u l))
 
 pub put-requires-2 : goal.put-requires-2
 put-requires-2 c = (search rules, omega (arith, above-is c, about c.args.total, c.ranges.total.sfits), λ j. absurd (j refl))

@@ -1,11 +1,7 @@
--- `test_support::runs::fill_targets` meets its contract: the position stays within the text, and the list keeps its length.
-use mathlib.Core.Path.{◌≡◌}
-use Prim.Native.Nat.{◌≤◌, ◌-◌}
+-- `test_support::runs::fill_targets` meets its contract: the position stays within the text.
+use Prim.Native.Nat.{◌≤◌}
 use lib.ListN.{length}
 use Rattle.test_support.proofs.runs.fill_targets.Given as goal
 
 abbrev pub invariant-loop-i : goal.invariant-loop-i
-invariant-loop-i l = (l.next ≤ length l.text) × (length l.xs ≡ length l.initial.xs)
-
-abbrev pub decreases-loop-i : goal.decreases-loop-i
-decreases-loop-i l = l.n - l.i
+invariant-loop-i l = l.next ≤ length l.text

@@ -9,4 +9,4 @@ unfolding refusal_text
 returns c =
     let p = c.put_named-a in
     let q = c.put_number in
-    (then (omega arith) p.ensures.0 q.ensures.0, omega (arith, p.ensures.1, q.ensures.1))
+    (then (omega arith) (rw c.from.ensures at p.ensures.0) (rw c.from-2.ensures at q.ensures.0), omega (arith, p.ensures.1, q.ensures.1))

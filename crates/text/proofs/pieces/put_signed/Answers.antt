@@ -15,13 +15,13 @@ pub returns-then-z-lt0 : goal.returns-then-z-lt0
 returns-then-z-lt0 c =
     let s = c.before.before.before.before.before.before.before in
     let a = s.args in
-    let n = c.magnitude-k in
+    let n = c.unsigned_abs-k in
     let p = then (omega (arith, s.requires)) (byte a.out.now a.at 45 (omega (arith, s.requires))) c.put_number.ensures.0 in
-    (rw (← below-zero a.z n.result a.after s.ranges.z c.if-z-lt0.true n.ensures) p, omega arith)
+    (rw (← below-zero a.z n.result a.after s.ranges.z c.if-z-lt0.true n.ensures.value) p, omega arith)
 
 pub returns : goal.returns
 returns c =
     let s = c.before.before.before.before.before.before.before in
     let a = s.args in
-    let n = c.magnitude-k in
-    (rw (← from_zero a.z n.result a.after s.ranges.z c.if-z-lt0.false n.ensures) c.put_number-2.ensures.0, omega arith)
+    let n = c.unsigned_abs-k in
+    (rw (← from_zero a.z n.result a.after s.ranges.z c.if-z-lt0.false n.ensures.value) c.put_number-2.ensures.0, omega arith)

@@ -1,21 +1,24 @@
--- `walks::columns::put` meets its contract: row u is in the scratch, so the index fits and is below the length; one number is set, with
--- the value for its part, which is a store by the law `stored`.
+-- `walks::columns::put` meets its contract: one number is set where the column stands, with the value for its part, which is a store by the
+-- law `stored`.
 use mathlib.Core.Path.{◌∙◌, ap}
-use Prim.Native.Nat.{◌+◌, ◌*◌}
+use Prim.Native.Nat.{◌+◌, ◌*◌, ◌^◌, ◌<◌}
+use native.Mathlib.Omega.{arith}
 use lib.IntN.{ℤ}
+use lib.Signed.{mag}
 use mir.Syntax.{w64}
 use mir.ValLaws.{to_z-of_z}
 use borrow.Author.Rules.{sfits_of}
 use Rattle.numbers.specs.Lists.{at_ℤ}
 use Rattle.numbers.proofs.SignedLaws.{read_back}
-use Rattle.scratch_spec.specs.Columns.{width, offset, with_part}
+use Rattle.scratch_spec.specs.Columns.{number_of, width, with_part}
 use Rattle.scratch_spec.proofs.ColumnLaws.{stored}
 use Rattle.walks.proofs.columns.put.Goals as goal
 
 pub returns : goal.returns
 returns c =
-    let b = c in
-    let z : ℤ = at_ℤ b.args.s.now (width * b.args.u + offset b.args.k) in
-    let given = c.with_part-arg-1.given in
-    rw (to_z-of_z w64 c.with_part-z.result (sfits_of c.with_part-z.type_inv) ∙ c.with_part-z.ensures ∙ ap (λ y. with_part b.args.k y b.args.v) (read_back z given))
-    (stored _ _ _ _ b.requires.0 b.requires.2 given)
+    let a = c.args in
+    let k = number_of a.column in
+    let z : ℤ = at_ℤ a.s.now (width * a.u + c.offset.result) in
+    let given : mag z < 2 ^ 63 = omega arith in
+    rw (to_z-of_z w64 c.with_part.result (sfits_of c.with_part.type_inv) ∙ c.with_part.ensures ∙ ap (λ y. with_part k y a.v) (read_back z given), c.offset.ensures)
+    (stored k a.u a.v a.s.now c.requires.0 c.requires.2 (rw c.offset.ensures at given))

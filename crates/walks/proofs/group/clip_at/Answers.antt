@@ -10,6 +10,6 @@ returns c =
     let target = c.get_above-target.ensures in
     let low = c.get_above-low.ensures in
     let high = c.get_above-high.ensures in (
-      c.larger.ensures ∙ ap₂ max low.0 (c.smaller.ensures ∙ ap₂ min target.0 high.0) ∙ sym (clip-is _ _ _),
-      omega (arith, c.larger.ensures, c.smaller.ensures, low.1, high.1),
+      c.max.ensures ∙ ap₂ max low.0 (c.min.ensures ∙ ap₂ min target.0 high.0) ∙ sym (clip-is _ _ _),
+      omega (arith, c.max.ensures, c.min.ensures, low.1, high.1),
     )

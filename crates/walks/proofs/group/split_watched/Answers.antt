@@ -37,7 +37,7 @@ difference-deficit-requires c = (c.get_above-mass.ensures.1, omega (arith, c.cli
 pub share_walk-shares-requires : goal.share_walk-shares-requires
 share_walk-shares-requires c =
     let e = d-is c.requires.splitting c.clip_walk-clipped.ensures c.get_above-mass.ensures.0 c.difference-deficit.ensures in
-    sharing-1 c.requires.splitting c.clip_walk-clipped.ensures (c.is_negative-down.ensures ∙ ap surplus e) (c.magnitude-size.ensures ∙ ap nat_abs e)
+    sharing-1 c.requires.splitting c.clip_walk-clipped.ensures (ap surplus e) (c.unsigned_abs-size.ensures.value ∙ ap nat_abs e)
 
 pub get_above-first-requires : goal.get_above-first-requires
 get_above-first-requires c =
@@ -49,12 +49,12 @@ get_above-first-requires c =
 pub overflow_sub-size : goal.overflow_sub-size
 overflow_sub-size c =
     let e = d-is c.requires.splitting c.clip_walk-clipped.ensures c.get_above-mass.ensures.0 c.difference-deficit.ensures in
-    given-most c.requires.splitting c.clip_walk-clipped.ensures (c.is_negative-down.ensures ∙ ap surplus e) (c.magnitude-size.ensures ∙ ap nat_abs e) c.share_walk-shares.ensures
+    given-most c.requires.splitting c.clip_walk-clipped.ensures (ap surplus e) (c.unsigned_abs-size.ensures.value ∙ ap nat_abs e) c.share_walk-shares.ensures
 
 pub share_walk-requires : goal.share_walk-requires
 share_walk-requires c =
     let e = d-is c.requires.splitting c.clip_walk-clipped.ensures c.get_above-mass.ensures.0 c.difference-deficit.ensures in
-    sharing-2 c.requires.splitting c.clip_walk-clipped.ensures (c.is_negative-down.ensures ∙ ap surplus e) (c.magnitude-size.ensures ∙ ap nat_abs e) c.share_walk-shares.ensures
+    sharing-2 c.requires.splitting c.clip_walk-clipped.ensures (ap surplus e) (c.unsigned_abs-size.ensures.value ∙ ap nat_abs e) c.share_walk-shares.ensures
 
 pub get_above-both-requires : goal.get_above-both-requires
 get_above-both-requires c =
@@ -75,7 +75,7 @@ returns c =
     let e = d-is c.requires.splitting c.clip_walk-clipped.ensures c.get_above-mass.ensures.0 c.difference-deficit.ensures in
     record {
       split_watched =
-          split-watched c.requires.splitting c.clip_walk-clipped.ensures (c.is_negative-down.ensures ∙ ap surplus e) (c.magnitude-size.ensures ∙ ap nat_abs e)
+          split-watched c.requires.splitting c.clip_walk-clipped.ensures (ap surplus e) (c.unsigned_abs-size.ensures.value ∙ ap nat_abs e)
           c.share_walk-shares.ensures
           c.share_walk.ensures
           c.get_above-clip.ensures.0 c.get_above-first.ensures.0 c.get_above-both.ensures.0;

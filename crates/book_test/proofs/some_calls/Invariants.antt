@@ -1,9 +1,0 @@
--- `book_test::some_calls` is safe and ends: it makes 500 calls.
-use Rattle.std.proofs.Common.{◌-◌}
-use Rattle.book_test.proofs.some_calls.Given as goal
-
-abbrev pub invariant-loop-i : goal.invariant-loop-i
-invariant-loop-i l = Unit
-
-abbrev pub decreases-loop-i : goal.decreases-loop-i
-decreases-loop-i l = 500 - l.i

@@ -1,0 +1,28 @@
+-- `legzhuro_c::calls::export` meets its contract: the room first, and then what Export tells is returned and written.
+use Rattle.std.proofs.lemmas.Result.{err_from_is_err_and}
+use mathlib.Core.Path.{sym}
+use Rattle.numbers.proofs.CheckLaws.{long-decides}
+use Rattle.doubles_spec.specs.Export.{export_double}
+use Rattle.legzhuro_c.proofs.CallLaws.{value-no-room, value-done, value-refused}
+use Rattle.legzhuro_c.proofs.calls.export.Goals as goal
+
+pub returns-in_err-check_long : goal.returns-in_err-check_long
+returns-in_err-check_long c =
+    let a = c.args in
+    let p = err_from_is_err_and c.from_residual.result c.from_residual.ensures.1 in
+    rw (p.1, p.2) (value-no-room a.mass a.scale (export_double a.mass a.scale) a.value.now (sym c.in_err-check_long.ensures))
+
+pub returns-in_err-x : goal.returns-in_err-x
+returns-in_err-x c =
+    let a = c.args in
+    let p = err_from_is_err_and c.from_residual-in_err-x.result c.from_residual-in_err-x.ensures.1 in
+    rw (p.1, p.2)
+    (value-refused a.mass a.scale (export_double a.mass a.scale) a.value.now c.export.ensures.answers ((long-decides _ _).passes.0 (sym c.in_ok-check_long.ensures)) c.in_err-x.was)
+
+pub put_double-requires : goal.put_double-requires
+put_double-requires c = (long-decides _ _).passes.0 (sym c.in_ok-check_long.ensures)
+
+pub returns : goal.returns
+returns c =
+    let a = c.args in
+    value-done a.mass a.scale (export_double a.mass a.scale) a.value.now c.export.ensures.answers ((long-decides _ _).passes.0 (sym c.in_ok-check_long.ensures)) c.in_ok-x.was c.put_double.ensures

@@ -1,2 +1,0 @@
--- What the contracts of the test program cite.
-pub mod Cases
