@@ -32,28 +32,35 @@ use Rattle.family_calls.specs.Calls.{call_room, start_call_verdict, FamilyStartR
 -- ---- start
 
 module _ (cap scale n : ℕ) (family : List ℕ) where
-  pub start-no-room : {refusal : Refusal} → check_long (length family) family_entries ≡ Err refusal → FamilyStartReturns cap scale n family (returned (Err refusal)) family
+  pub start-no-room :
+      {refusal : Refusal} → check_long (length family) family_entries ≡ Err refusal
+      → (Err refusal ≡ start_call_verdict scale n family) × FamilyStartReturns cap scale n family (returned (Err refusal)) family
   unfolding start_call_verdict
   start-no-room h =
       let v = room-refused (length family) family_entries (start_verdict scale n) h in
-      record { returns = ap returned (sym v); gives = after-fail _ family v }
+      (sym v, record { returns = ap returned (sym v); gives = after-fail _ family v })
 
   module _ (a : FamilyAnswer Checked) (p : StartContract cap scale n a) (h : family_entries ≤ length family) where
-    pub start-done : {family' : List ℕ} → a.answer ≡ Ok tt → family' ≡ written family 0 (family_words a.family) → FamilyStartReturns cap scale n family 0 family'
+    pub start-done :
+        {family' : List ℕ} → a.answer ≡ Ok tt → family' ≡ written family 0 (family_words a.family)
+        → (Ok tt ≡ start_call_verdict scale n family) × FamilyStartReturns cap scale n family 0 family'
     unfolding start_call_verdict
     start-done e w =
         let t = (answered-accepted (start_verdict scale n) tt tt (sym e ∙ p.answers)).0 in
-        let v = room (length family) family_entries (start_verdict scale n) h ∙ t in
-        record {
-          returns = ap returned (sym v);
-          gives = after-pass family v (w ∙ ap (λ f. written family 0 (family_words f)) (p.gives ∙ ap (λ u. after u (begun cap scale n) (begun 0 0 0)) t));
-        }
+        let v = room (length family) family_entries (start_verdict scale n) h ∙ t in (
+          sym v,
+          record {
+            returns = ap returned (sym v);
+            gives = after-pass family v (w ∙ ap (λ f. written family 0 (family_words f)) (p.gives ∙ ap (λ u. after u (begun cap scale n) (begun 0 0 0)) t));
+          },
+        )
 
-    pub start-refused : {refusal : Refusal} → a.answer ≡ Err refusal → FamilyStartReturns cap scale n family (returned (Err refusal)) family
+    pub start-refused :
+        {refusal : Refusal} → a.answer ≡ Err refusal → (Err refusal ≡ start_call_verdict scale n family) × FamilyStartReturns cap scale n family (returned (Err refusal)) family
     unfolding start_call_verdict
     start-refused e =
         let v = room (length family) family_entries (start_verdict scale n) h ∙ answered-refused (start_verdict scale n) tt _ _ (sym e ∙ p.answers) in
-        record { returns = ap returned (sym v); gives = after-fail _ family v }
+        (sym v, record { returns = ap returned (sym v); gives = after-fail _ family v })
 
 -- ---- open
 
@@ -73,10 +80,12 @@ module _ (family : List ℕ) (i : ℕ) (kept : List ℕ) (k : ℕ) (answer : Lis
   unfolding open_call_verdict
   open-chain = first-last (check_long (length family) family_entries ∷ check_long (length answer) open_values ∷ []) (open_member_verdict f i kept k)
 
-  pub open-room-refused : {refusal : Refusal} → call_room family answer open_values ≡ Err refusal → FamilyOpenReturns family i kept k answer (returned (Err refusal)) family answer
+  pub open-room-refused :
+      {refusal : Refusal} → call_room family answer open_values ≡ Err refusal
+      → (Err refusal ≡ open_call_verdict family i kept k answer) × FamilyOpenReturns family i kept k answer (returned (Err refusal)) family answer
   open-room-refused e =
       let v = open-chain ∙ ap (λ w. both w (open_member_verdict f i kept k)) e in
-      record { returns = ap returned (sym v); gives = after-fail _ family v; writes = after-fail _ answer v }
+      (sym v, record { returns = ap returned (sym v); gives = after-fail _ family v; writes = after-fail _ answer v })
 
   module _ (e : call_room family answer open_values ≡ Ok tt) where
     open-past : open_call_verdict family i kept k answer ≡ open_member_verdict f i kept k
@@ -85,20 +94,24 @@ module _ (family : List ℕ) (i : ℕ) (kept : List ℕ) (k : ℕ) (answer : Lis
     module _ (a : FamilyAnswer (Answered Balance)) (p : OpenMemberContract f i kept k a) where
       pub open_done :
           {b : Balance} {family' answer' : List ℕ} → a.answer ≡ Ok b → family' ≡ written family 0 (family_words a.family)
-          → answer' ≡ written answer 0 (balance_words b) → FamilyOpenReturns family i kept k answer 0 family' answer'
+          → answer' ≡ written answer 0 (balance_words b) → (Ok tt ≡ open_call_verdict family i kept k answer) × FamilyOpenReturns family i kept k answer 0 family' answer'
       open_done {b} s u w =
           let t = answered-accepted (open_member_verdict f i kept k) b (open_balance kept k) (sym s ∙ p.tells.answers) in
-          let v = open-past ∙ t.0 in
-          record {
-            returns = ap returned (sym v);
-            gives = after-pass family v (u ∙ ap (λ g. written family 0 (family_words g)) (p.gives ∙ ap (λ y. after y (put f i (open_with (sum kept))) f) t.0));
-            writes = after-pass answer v (w ∙ ap (λ y. written answer 0 (balance_words y)) t.1);
-          }
+          let v = open-past ∙ t.0 in (
+            sym v,
+            record {
+              returns = ap returned (sym v);
+              gives = after-pass family v (u ∙ ap (λ g. written family 0 (family_words g)) (p.gives ∙ ap (λ y. after y (put f i (open_with (sum kept))) f) t.0));
+              writes = after-pass answer v (w ∙ ap (λ y. written answer 0 (balance_words y)) t.1);
+            },
+          )
 
-      pub open-refused : {refusal : Refusal} → a.answer ≡ Err refusal → FamilyOpenReturns family i kept k answer (returned (Err refusal)) family answer
+      pub open-refused :
+          {refusal : Refusal} → a.answer ≡ Err refusal
+          → (Err refusal ≡ open_call_verdict family i kept k answer) × FamilyOpenReturns family i kept k answer (returned (Err refusal)) family answer
       open-refused s =
           let v = open-past ∙ answered-refused (open_member_verdict f i kept k) (open_balance kept k) _ _ (sym s ∙ p.tells.answers) in
-          record { returns = ap returned (sym v); gives = after-fail _ family v; writes = after-fail _ answer v }
+          (sym v, record { returns = ap returned (sym v); gives = after-fail _ family v; writes = after-fail _ answer v })
 
 -- ---- step
 
@@ -136,17 +149,19 @@ module _ (family : List ℕ) (i : ℕ) (x : StepInputs) (answer : List ℕ) wher
 
   pub step-room-refused :
       {refusal : Refusal} → Typed c → step_room family i x answer ≡ Err refusal
-      → FamilyStepReturns family i x answer (returned (Err refusal)) family x.kept x.scratch x.book answer
+      → (Err refusal ≡ step_call_verdict family i x answer) × FamilyStepReturns family i x answer (returned (Err refusal)) family x.kept x.scratch x.book answer
   step-room-refused y e =
-      let v = step-chain ∙ ap (λ w. both w (step_member_verdict g i x)) e in
-      record {
-        typed = y;
-        returns = ap returned (sym v);
-        gives = after-fail _ family v;
-        leaves = leaves-refused (repair_call c) v;
-        files = after-fail _ x.book v;
-        writes = after-fail _ answer v;
-      }
+      let v = step-chain ∙ ap (λ w. both w (step_member_verdict g i x)) e in (
+        sym v,
+        record {
+          typed = y;
+          returns = ap returned (sym v);
+          gives = after-fail _ family v;
+          leaves = leaves-refused (repair_call c) v;
+          files = after-fail _ x.book v;
+          writes = after-fail _ answer v;
+        },
+      )
 
   module _ (e : step_room family i x answer ≡ Ok tt) where
     pub step-family : family_entries ≤ length family
@@ -173,21 +188,24 @@ module _ (family : List ℕ) (i : ℕ) (x : StepInputs) (answer : List ℕ) wher
 
       pub step-done :
           {y : Repair} {b : Balance} {l : ℕ} {family' answer' : List ℕ} → a.answer ≡ Ok (record { repair = y; balance = b; length = l }) → family' ≡ written family 0 (family_words a.family)
-          → answer' ≡ written answer 0 (result_words y l) → FamilyStepReturns family i x answer 0 family' kept scratch book answer'
+          → answer' ≡ written answer 0 (result_words y l) → (Ok tt ≡ step_call_verdict family i x answer) × FamilyStepReturns family i x answer 0 family' kept scratch book answer'
       step-done {y} {b} {l} s u w =
           let t = answered-accepted (step_member_verdict g i x) (record { repair = y; balance = b; length = l }) (step_result c) (sym s ∙ p.tells.tells.answers) in
-          let v = step_past ∙ t.0 in
-          record {
-            typed = p.tells.typed;
-            returns = ap returned (sym v);
-            gives = after-pass family v (u ∙ ap (λ q. written family 0 (family_words q)) (p.gives ∙ ap (λ q. after q (put g i (open_with (new_total c))) g) t.0));
-            leaves = leaves-on;
-            files = files-on;
-            writes = after-pass answer v (w ∙ ap (λ q. written answer 0 (result_words q.repair q.length)) t.1);
-          }
+          let v = step_past ∙ t.0 in (
+            sym v,
+            record {
+              typed = p.tells.typed;
+              returns = ap returned (sym v);
+              gives = after-pass family v (u ∙ ap (λ q. written family 0 (family_words q)) (p.gives ∙ ap (λ q. after q (put g i (open_with (new_total c))) g) t.0));
+              leaves = leaves-on;
+              files = files-on;
+              writes = after-pass answer v (w ∙ ap (λ q. written answer 0 (result_words q.repair q.length)) t.1);
+            },
+          )
 
       pub step-refused :
-          {refusal : Refusal} → a.answer ≡ Err refusal → FamilyStepReturns family i x answer (returned (Err refusal)) family kept scratch book answer
+          {refusal : Refusal} → a.answer ≡ Err refusal
+          → (Err refusal ≡ step_call_verdict family i x answer) × FamilyStepReturns family i x answer (returned (Err refusal)) family kept scratch book answer
       step-refused s =
           let v = step_past ∙ answered-refused (step_member_verdict g i x) (step_result c) _ _ (sym s ∙ p.tells.tells.answers) in
-          record { typed = p.tells.typed; returns = ap returned (sym v); gives = after-fail _ family v; leaves = leaves-on; files = files-on; writes = after-fail _ answer v }
+          (sym v, record { typed = p.tells.typed; returns = ap returned (sym v); gives = after-fail _ family v; leaves = leaves-on; files = files-on; writes = after-fail _ answer v })

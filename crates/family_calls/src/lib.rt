@@ -3,10 +3,11 @@
 // `family_spec`, `kept_spec`, `qlt_spec` and `numbers`.
 #![tactic(auto)]
 
+ghost use Rattle.std.specs.Prelude.{◌≡◌};
 ghost use Rattle.qlt_spec.specs.Field.{lists_of};
 ghost use Rattle.call_values.specs.Values.{returned};
 ghost use Rattle.family_spec.specs.Member.{step_inputs};
-ghost use Rattle.family_calls.specs.Calls.{FamilyStartReturns, FamilyOpenReturns, FamilyStepReturns};
+ghost use Rattle.family_calls.specs.Calls.{start_call_verdict, FamilyStartReturns, open_call_verdict, FamilyOpenReturns, step_call_verdict, FamilyStepReturns};
 
 use call_values::values::{OPEN_VALUES, put_balance, put_result};
 use family::{open_member, start_family, step_member};
@@ -21,7 +22,7 @@ pub mod verdict;
 
 // Starts a family.
 pub fn start(cap: u64, scale: u32, cells: u32, family: &mut [u64]) -> Result<(), Refusal>
-    ensures { FamilyStartReturns cap scale cells family.old (returned result) family.new }
+    ensures { (result ≡ start_call_verdict scale cells family.old) × FamilyStartReturns cap scale cells family.old (returned result) family.new }
 {
     check_long(family.len(), list::FAMILY_ENTRIES)?;
     let started = start_family(cap, scale, cells);
@@ -38,8 +39,8 @@ pub fn open(
     scale: u32,
     answer: &mut [u64],
 ) -> Result<(), Refusal>
-    ensures { FamilyOpenReturns family.old member kept.now scale answer.old (returned result) family.new
-        answer.new }
+    ensures { (result ≡ open_call_verdict family.old member kept.now scale answer.old) ×
+        FamilyOpenReturns family.old member kept.now scale answer.old (returned result) family.new answer.new }
 {
     call_room(family.len(), answer.len(), OPEN_VALUES)?;
     let opened = open_member(read_family(family), member, kept, scale);
@@ -63,9 +64,9 @@ pub fn step(
     told: usize,
     answer: &mut [u64],
 ) -> Result<(), Refusal>
-    ensures { FamilyStepReturns family.old member
-        (step_inputs kept.old source scale (lists_of field.now) scratch.old book.old told)
-        answer.old (returned result) family.new kept.new scratch.new book.new answer.new }
+    ensures { let x = step_inputs kept.old source scale (lists_of field.now) scratch.old book.old told in
+        (result ≡ step_call_verdict family.old member x answer.old) ×
+        FamilyStepReturns family.old member x answer.old (returned result) family.new kept.new scratch.new book.new answer.new }
 {
     step_room(
         family,

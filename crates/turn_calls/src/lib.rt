@@ -3,10 +3,12 @@
 // from `family_spec`. Relies on `turns`, `family_calls`, `call_values`, `family_spec`, `kept_spec`, `qlt_spec` and `numbers`.
 #![tactic(auto)]
 
+ghost use Rattle.std.specs.Prelude.{◌≡◌};
 ghost use Rattle.qlt_spec.specs.Field.{lists_of};
 ghost use Rattle.call_values.specs.Values.{returned};
 ghost use Rattle.family_spec.specs.Member.{step_inputs};
-ghost use Rattle.turn_calls.specs.TurnCalls.{FamilyRegisterReturns, FamilyNextReturns, FamilyWaitingReturns, FamilyTurnReturns};
+ghost use Rattle.family_calls.specs.Calls.{call_room};
+ghost use Rattle.turn_calls.specs.TurnCalls.{register_call_verdict, FamilyRegisterReturns, FamilyNextReturns, FamilyWaitingReturns, turn_values, FamilyTurnReturns};
 
 use family_calls::list::{FAMILY_ENTRIES, put_family, read_family};
 use family_calls::verdict::call_room;
@@ -22,7 +24,7 @@ const TURN_VALUES: usize = 7;
 
 // Registers a member as waiting.
 pub fn register(family: &mut [u64], member: u32) -> Result<(), Refusal>
-    ensures { FamilyRegisterReturns family.old member (returned result) family.new }
+    ensures { (result ≡ register_call_verdict family.old member) × FamilyRegisterReturns family.old member (returned result) family.new }
 {
     check_long(family.len(), FAMILY_ENTRIES)?;
     let registered = turns::register(read_family(family), member);
@@ -33,7 +35,7 @@ pub fn register(family: &mut [u64], member: u32) -> Result<(), Refusal>
 
 // Reads the next in turn: answer[0] is the member, or 8 for nobody.
 pub fn next(family: &[u64], answer: &mut [u64]) -> Result<(), Refusal>
-    ensures { FamilyNextReturns family.now answer.old (returned result) answer.new }
+    ensures { (result ≡ call_room family.now answer.old 1) × FamilyNextReturns family.now answer.old (returned result) answer.new }
 {
     call_room(family.len(), answer.len(), 1)?;
     let next = next_member(read_family(family));
@@ -43,7 +45,7 @@ pub fn next(family: &[u64], answer: &mut [u64]) -> Result<(), Refusal>
 
 // Reads how many members wait: answer[0] is their number.
 pub fn waiting(family: &[u64], answer: &mut [u64]) -> Result<(), Refusal>
-    ensures { FamilyWaitingReturns family.now answer.old (returned result) answer.new }
+    ensures { (result ≡ call_room family.now answer.old 1) × FamilyWaitingReturns family.now answer.old (returned result) answer.new }
 {
     call_room(family.len(), answer.len(), 1)?;
     let count = waiting_count(read_family(family));
@@ -64,7 +66,7 @@ pub fn turn(
     told: usize,
     answer: &mut [u64],
 ) -> Result<(), Refusal>
-    ensures { FamilyTurnReturns family.old
+    ensures { (result ≡ call_room family.old answer.old turn_values) × FamilyTurnReturns family.old
         (step_inputs kept.old source scale (lists_of field.now) scratch.old book.old told)
         answer.old (returned result) family.new kept.new scratch.new book.new answer.new }
 {

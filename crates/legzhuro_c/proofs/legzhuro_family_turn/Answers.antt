@@ -16,4 +16,4 @@ returns c =
     let given = λ (z : ℤ). step_inputs a.kept.now z a.scale (lists a.targets.now a.lows.now a.highs.now a.safe_lows.now a.safe_highs.now a.weights.now a.parents.now) a.scratch.now a.book.now a.book_length in
     rw c.returned.ensures
     (subst (λ (z : ℤ). FamilyTurnReturns a.family.now (given z) a.answer.now (returned done.result) done.new.family done.new.kept done.new.scratch done.new.book done.new.answer)
-    (to_z-of_z w32 a.source c.ranges.source) done.ensures)
+    (to_z-of_z w32 a.source c.ranges.source) done.ensures.1)
