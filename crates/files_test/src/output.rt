@@ -1,9 +1,18 @@
 // What a call answered, and check numbers of the lists after it, as a line of text. A check number starts at 0; each entry in turn makes
 // it 31 times what it was, and the entry, modulo 4294967291. A target counts as its word in two's complement.
+ghost use Rattle.std.specs.Prelude.{◌<◌};
+
 use numbers::Refusal;
 use std::fmt;
 use std::fmt::Write;
 use test_support::output::Output;
+
+// A check number with one entry more.
+fn mixed(check: u64, entry: u32) -> u64
+    ensures { result < 4294967291 }
+{
+    (check % 4294967291 * 31 + u64::from(entry)) % 4294967291
+}
 
 // The check number of a list. `word` says what an entry counts as.
 fn check_number<T: Copy, F: Fn(T) -> u32>(xs: &[T], word: F) -> u64
@@ -11,7 +20,7 @@ fn check_number<T: Copy, F: Fn(T) -> u32>(xs: &[T], word: F) -> u64
 {
     let mut check = 0u64;
     for x in xs {
-        check = (check % 4294967291 * 31 + u64::from(word(*x))) % 4294967291;
+        check = mixed(check, word(*x));
     }
     check
 }

@@ -16,11 +16,18 @@ fn residue(x: i64) -> u64
     }
 }
 
+// The check number with one mass more, at an index.
+fn weighed(check: u64, i: usize, x: i64) -> u64
+    ensures { result < 1000000007 }
+{
+    (check % 1000000007 + (i as u64 % 1000000007 + 1) * residue(x)) % 1000000007
+}
+
 // The check number: the sum of each mass times its place, counted from 1, modulo 1000000007.
 fn check_number(xs: &[i64]) -> u64 {
     let mut check: u64 = 0;
     for (i, x) in xs.iter().enumerate() {
-        check = (check % 1000000007 + (i as u64 % 1000000007 + 1) * residue(*x)) % 1000000007;
+        check = weighed(check, i, *x);
     }
     check
 }
